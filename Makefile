@@ -1,6 +1,6 @@
 # enf: a first run, files of one's own, the proved program, the tests.
 
-.PHONY: help demo try build install recipes bench check trusted test fmt clean
+.PHONY: help demo try build install recipes bench bars check trusted test fmt clean
 
 help:
 	@echo 'make demo                            enforces the logs of examples/, shows what was changed, and checks two policies'
@@ -8,7 +8,8 @@ help:
 	@echo 'make build                           proves the program, which takes hours, and leaves it as bin/enf'
 	@echo 'make install PREFIX=FOLDER           puts the proved program, its man page and the examples there'
 	@echo 'make recipes                         runs what the documents show, and stops and resumes the examples, by the proved program'
-	@echo 'make bench                           measures the proved program on generated logs'
+	@echo 'make bench                           measures the proved program on generated logs, and the bars'
+	@echo 'make bars                            measures what must not grow with what is remembered or pending'
 	@echo 'make check                           proves every crate, over what earlier checks kept; from nothing it takes hours'
 	@echo 'make trusted                         prints what must be believed of the theorem, and fails where it is too much'
 	@echo 'make test                            proves and tests everything (rt ci); from nothing it takes hours'
@@ -33,6 +34,9 @@ recipes:
 
 bench:
 	@./scripts/bench.sh
+
+bars:
+	@./scripts/bars.py
 
 check:
 	rt all check

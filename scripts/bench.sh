@@ -2,7 +2,7 @@
 # Measures `enf gen`, and `enf enforce` on what it gives: the rate and the peak memory, and of `enforce` the instructions
 # for each byte where valgrind is installed, for logs of two sizes, under the empty policy and under one rule. Then what a
 # record costs that has many events, wakes one of many rules or passes many deadlines, what the records of a log cost under
-# policies that ask the past and look ahead, and what a state and its open duties cost.
+# policies that ask the past and look ahead, what a state and its open duties cost, and the figures of bars.py.
 set -u
 cd "$(dirname "$0")/.." || exit 1
 . scripts/enf.sh
@@ -18,14 +18,21 @@ trap 'rm -rf "$work"' EXIT
 measure() {
     local bytes seconds memory
     /usr/bin/env python3 - "${@:3}" > "$work/figures" <<'PYTHON'
-import os, resource, subprocess, sys, time
+import os, re, subprocess, sys, time
 source, target, *words = sys.argv[1:]
-begun = time.monotonic()
+begun, memory = time.monotonic(), 0
 with open(source, 'rb') as log, open(target, 'wb') as output:
-    subprocess.run(['bin/enf'] + words, stdin=log, stdout=output, stderr=subprocess.DEVNULL, check=True)
+    enf = subprocess.Popen(['bin/enf'] + words, stdin=log, stdout=output, stderr=subprocess.DEVNULL)
+# It is looked for while it runs, since what is told of a child afterwards is at least what python3 has.
+while enf.poll() is None:
+    with open('/proc/%d/status' % enf.pid) as status:
+        found = re.search(r'VmHWM:\s*(\d+)', status.read())
+    memory = int(found.group(1)) if found else memory
+    time.sleep(0.001)
 seconds = time.monotonic() - begun
 size = os.path.getsize(source if source != os.devnull else target)
-print('%d %.3f %d' % (size, seconds, resource.getrusage(resource.RUSAGE_CHILDREN).ru_maxrss))
+print('%d %.3f %d' % (size, seconds, memory))
+sys.exit(enf.returncode)
 PYTHON
     read -r bytes seconds memory < "$work/figures"
     awk -v name="$1" -v size="$2" -v bytes="$bytes" -v seconds="$seconds" -v memory="$memory" 'BEGIN {
@@ -177,4 +184,6 @@ echo "an open duty: $((memory * 1024 / 600000)) bytes, all in all"
 
 # What the enforcement of a generated log takes under the sample policy, without its text.
 bin/enf drill 1 200000
-exit 0
+
+# What must not grow with what is remembered or pending.
+scripts/bars.py

@@ -1,12 +1,8 @@
 -- Bindings, as they stand in a line and in a valuation.
-use Rattle.action_report.proofs.Vocabulary.{◌≡◌, ℕ, Bool, true, false, cond, Result, Ok, Err, IfOk, List, []}
-use Rattle.action_report.proofs.Vocabulary.{◌∷◌, ◌++◌, map, Some, None, codes, refl, sym, ap, subst}
-use Rattle.action_report.proofs.Vocabulary.{◌∙◌, arith, append_assoc, by_order, find, put, AllByRecursion}
-use Rattle.action_report.proofs.Vocabulary.{IsStrictlySortedBy, is_eq, ordering_reverse, Less, Greater, map-append}
-use Rattle.action_report.proofs.Vocabulary.{sorted_head, sorted_tail, spelled, EndsBefore, IsNoDigit, Valuation}
-use Rattle.action_report.proofs.Vocabulary.{bindings, value_at, variable_cmp, variable_cmp_total, IsValue, VarId, Value}
-use Rattle.action_report.proofs.Vocabulary.{Num, Text, all_at_middle, with_value, variable_text, binding_text}
-use Rattle.action_report.proofs.Vocabulary.{bindings_text, AddsBindings, IsRising}
+use Rattle.action_report.proofs.Vocabulary.{◌≡◌, ℕ, Bool, true, false, cond, Result, Ok, Err, IfOk, List, [], ◌∷◌, ◌++◌, map, Some, None, codes, refl, sym, ap, subst, ◌∙◌, arith, append_assoc}
+use Rattle.action_report.proofs.Vocabulary.{by_order, find, put, AllByRecursion, IsStrictlySortedBy, is_eq, ordering_reverse, Less, Greater, map-append, sorted_head, sorted_tail, spelled, EndsBefore}
+use Rattle.action_report.proofs.Vocabulary.{IsNoDigit, Valuation, bindings, value_at, variable_cmp, variable_cmp_total, IsValue, VarId, Value, Num, Text, all_at_middle, with_value, variable_text}
+use Rattle.action_report.proofs.Vocabulary.{binding_text, bindings_text, AddsBindings, IsRising}
 use Rattle.std.specs.FinMap as finite
 
 abbrev pub Binding : Type 0

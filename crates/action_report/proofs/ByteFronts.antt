@@ -1,10 +1,7 @@
 -- Words, numbers and values at the front of bytes, and what is after them.
-use Rattle.action_report.proofs.Vocabulary.{◌≡◌, ℕ, ◌<◌, ◌≤◌, ◌^◌, ◌&&◌, Bool, true, false}
-use Rattle.action_report.proofs.Vocabulary.{cond, List, [], ◌∷◌, ◌++◌, None, Result, Ok, Err, MatchResult}
-use Rattle.action_report.proofs.Vocabulary.{IsTrue, decimal, refl, ap, ◌∙◌, arith, is_ascii_digit, digit_value}
-use Rattle.action_report.proofs.Vocabulary.{list_all, take_while, result_ok, IsUtf8, nat_tests, decimal_is_IsNumeral}
-use Rattle.action_report.proofs.Vocabulary.{IsAscii-from_digits, take_while-cons, IsUtf8-from_ascii, is_word}
-use Rattle.action_report.proofs.Vocabulary.{is_word_byte, is_word_start, IsNoDigit, digits_pass, EndsWord}
+use Rattle.action_report.proofs.Vocabulary.{◌≡◌, ℕ, ◌<◌, ◌≤◌, ◌^◌, ◌&&◌, Bool, true, false, cond, List, [], ◌∷◌, ◌++◌, None, Result, Ok, Err, MatchResult, IsTrue, decimal, refl, ap, ◌∙◌, arith}
+use Rattle.action_report.proofs.Vocabulary.{is_ascii_digit, digit_value, list_all, take_while, result_ok, IsUtf8, nat_tests, decimal_is_IsNumeral, IsAscii-from_digits, take_while-cons}
+use Rattle.action_report.proofs.Vocabulary.{IsUtf8-from_ascii, is_word, is_word_byte, is_word_start, IsNoDigit, digits_pass, EndsWord}
 
 -- bytes of one kind before a byte of another
 pub kind_front : (kind : ℕ → Bool) (front rest : List ℕ) → list_all kind front ≡ true → take_while kind rest ≡ [] → take_while kind (front ++ rest) ≡ front

@@ -1,11 +1,7 @@
 -- The rule with a name, and what stands after numbers.
-use Rattle.action_report.proofs.Vocabulary.{◌≡◌, ℕ, zero, suc, Bool, true, false, cond, List, [], ◌∷◌}
-use Rattle.action_report.proofs.Vocabulary.{◌++◌, map, Some, Contains, slice_get, codes, refl, sym, ap, subst}
-use Rattle.action_report.proofs.Vocabulary.{◌∙◌, arith, append_assoc, AllByRecursion, position, option_map}
-use Rattle.action_report.proofs.Vocabulary.{bytes_eq, get_or_from_slice_get, slice_get-map, slice_get_within}
-use Rattle.action_report.proofs.Vocabulary.{bytes_eq-Decides, HasNoRepeats, IsNoDigit, position-cons, NameEntry, Rule}
-use Rattle.action_report.proofs.Vocabulary.{rule_of, IsWellFormedPolicy, IsWellFormedRule, Action, bindings_text}
-use Rattle.action_report.proofs.Vocabulary.{cause_text, when_text, labelled, IsRuleNamedOnce}
+use Rattle.action_report.proofs.Vocabulary.{◌≡◌, ℕ, zero, suc, Bool, true, false, cond, List, [], ◌∷◌, ◌++◌, map, Some, Contains, slice_get, codes, refl, sym, ap, subst, ◌∙◌, arith, append_assoc}
+use Rattle.action_report.proofs.Vocabulary.{AllByRecursion, position, option_map, bytes_eq, get_or_from_slice_get, slice_get-map, slice_get_within, bytes_eq-Decides, HasNoRepeats, IsNoDigit}
+use Rattle.action_report.proofs.Vocabulary.{position-cons, NameEntry, Rule, rule_of, IsWellFormedPolicy, IsWellFormedRule, Action, bindings_text, cause_text, when_text, labelled, IsRuleNamedOnce}
 use Rattle.formula_reader.specs.declared.policies.Rule.{Rule as StoredRule}
 use Rattle.action_report.proofs.BindLemmas.{Binding}
 use Rattle.action_report.proofs.RowLemmas.{name_is_word}

@@ -1,19 +1,12 @@
 -- A line is that of one action alone.
-use Rattle.action_report.proofs.Vocabulary.{◌≡◌, ℕ, ◌<◌, ◌^◌, List, [], ◌∷◌, ◌++◌, Some}
-use Rattle.action_report.proofs.Vocabulary.{IsTrue, slice_get, slice_index, codes, decimal, refl, sym, ap, subst}
-use Rattle.action_report.proofs.Vocabulary.{◌∙◌, arith, append_assoc, position, take_while, is_ascii_digit}
-use Rattle.action_report.proofs.Vocabulary.{digits_value, decimal_is_IsNumeral, is_word, is_word_byte, spelled}
-use Rattle.action_report.proofs.Vocabulary.{IsNoDigit, bindings, OneTokenAtPlace, PrintedIsToken, Event, VarId, Value}
-use Rattle.action_report.proofs.Vocabulary.{cancel_front as cancel, one_value, IsSignature, entry_names, number_only}
-use Rattle.action_report.proofs.Vocabulary.{NameEntry, Sort, spelled_event, spelled_row, FitColumns, IsDeclared}
-use Rattle.action_report.proofs.Vocabulary.{variable_text, Rule, Plan, scope_at, Action, LiteralKind, Cause, Suppress}
-use Rattle.action_report.proofs.Vocabulary.{action_line, bindings_text, cause_text, kind_text, rule_name}
-use Rattle.action_report.proofs.Vocabulary.{rule_variable_names, when_text, labelled, EndsWord, marked_values}
-use Rattle.action_report.proofs.Vocabulary.{OneActionOfLine, StandIn}
+use Rattle.action_report.proofs.Vocabulary.{◌≡◌, ℕ, ◌<◌, ◌^◌, List, [], ◌∷◌, ◌++◌, Some, IsTrue, slice_get, slice_index, codes, decimal, refl, sym, ap, subst, ◌∙◌, arith, append_assoc, position}
+use Rattle.action_report.proofs.Vocabulary.{take_while, is_ascii_digit, digits_value, decimal_is_IsNumeral, is_word, is_word_byte, spelled, IsNoDigit, bindings, OneTokenAtPlace, PrintedIsToken, Event}
+use Rattle.action_report.proofs.Vocabulary.{VarId, Value, cancel_front as cancel, one_value, IsSignature, entry_names, number_only, NameEntry, Sort, spelled_event, spelled_row, FitColumns, IsDeclared}
+use Rattle.action_report.proofs.Vocabulary.{variable_text, Rule, Plan, scope_at, Action, LiteralKind, Cause, Suppress, action_line, bindings_text, cause_text, kind_text, rule_name}
+use Rattle.action_report.proofs.Vocabulary.{rule_variable_names, when_text, labelled, EndsWord, marked_values, OneActionOfLine, StandIn}
 use Rattle.action_report.proofs.BindLemmas.{AreValues, Binding, binding_front, ends_binding, keys}
 use Rattle.action_report.proofs.ByteFronts.{number_front, word_front}
-use Rattle.action_report.proofs.RowLemmas.{commas, ends_value, event_text, first_text, inner_text, name_of, others_text}
-use Rattle.action_report.proofs.RowLemmas.{paren_ends, paren_ends_word}
+use Rattle.action_report.proofs.RowLemmas.{commas, ends_value, event_text, first_text, inner_text, name_of, others_text, paren_ends, paren_ends_word}
 use Rattle.action_report.proofs.NumberLemmas.{cause_split, named, no_digit_behind, rule_at, when_split}
 use Rattle.std.specs.FinMap as finite
 

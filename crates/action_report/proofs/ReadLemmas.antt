@@ -1,10 +1,7 @@
 -- What is read after the numbers, and the whole.
-use Rattle.action_report.proofs.Vocabulary.{◌≡◌, ℕ, ◌<◌, Bool, true, List, [], ◌∷◌, ◌++◌, length}
-use Rattle.action_report.proofs.Vocabulary.{Option, Some, None, IfNone, slice_get, refl, sym, ap, subst, ◌∙◌}
-use Rattle.action_report.proofs.Vocabulary.{arith, zero, suc, AllByRecursion, IsStrictlySortedBy, option_map, Valuation}
-use Rattle.action_report.proofs.Vocabulary.{bindings, no_values, variable_cmp, IsValue, VarId, nothing_rises}
-use Rattle.action_report.proofs.Vocabulary.{nothing_bound, Plan, FoundHasRisingScope, IsScopedPlan, scoped_at}
-use Rattle.action_report.proofs.Vocabulary.{AddsBindings, IsRising, BindsJust, StandIn}
+use Rattle.action_report.proofs.Vocabulary.{◌≡◌, ℕ, ◌<◌, Bool, true, List, [], ◌∷◌, ◌++◌, length, Option, Some, None, IfNone, slice_get, refl, sym, ap, subst, ◌∙◌, arith, zero, suc, AllByRecursion}
+use Rattle.action_report.proofs.Vocabulary.{IsStrictlySortedBy, option_map, Valuation, bindings, no_values, variable_cmp, IsValue, VarId, nothing_rises, nothing_bound, Plan, FoundHasRisingScope}
+use Rattle.action_report.proofs.Vocabulary.{IsScopedPlan, scoped_at, AddsBindings, IsRising, BindsJust, StandIn}
 use Rattle.action_report.proofs.BindLemmas.{keys}
 use Rattle.action_report.proofs.NumberLemmas.{all_at}
 use Rattle.std.specs.FinMap as finite

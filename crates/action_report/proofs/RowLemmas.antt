@@ -1,11 +1,8 @@
 -- Arguments and names, as they stand in a line.
-use Rattle.action_report.proofs.Vocabulary.{Result, Ok, Err, IfOk, ◌≡◌, ℕ, ◌&&◌, Bool, true, false, List}
-use Rattle.action_report.proofs.Vocabulary.{[], ◌∷◌, ◌++◌, Some, IsTrue, All, slice_get, slice_index_or, refl}
-use Rattle.action_report.proofs.Vocabulary.{sym, ap, subst, ◌∙◌, arith, append_assoc, flat_map, option_map}
-use Rattle.action_report.proofs.Vocabulary.{get_or_from_slice_get, slice_get-map, slice_get_within, is_name, is_word}
-use Rattle.action_report.proofs.Vocabulary.{spelled, EndsBefore, IsNoDigit, Event, NameId, Value, Num, Text}
-use Rattle.action_report.proofs.Vocabulary.{IsNameEntry, IsSignature, entry_names, NameEntry, Sort, spelled_event}
-use Rattle.action_report.proofs.Vocabulary.{spelled_row, FitColumns, IsDeclared, EndsWord, IsColumnValue, marked_values}
+use Rattle.action_report.proofs.Vocabulary.{Result, Ok, Err, IfOk, ◌≡◌, ℕ, ◌&&◌, Bool, true, false, List, [], ◌∷◌, ◌++◌, Some, IsTrue, All, slice_get, slice_index_or, refl, sym, ap, subst, ◌∙◌, arith}
+use Rattle.action_report.proofs.Vocabulary.{append_assoc, flat_map, option_map, get_or_from_slice_get, slice_get-map, slice_get_within, is_name, is_word, spelled, EndsBefore, IsNoDigit, Event, NameId}
+use Rattle.action_report.proofs.Vocabulary.{Value, Num, Text, IsNameEntry, IsSignature, entry_names, NameEntry, Sort, spelled_event, spelled_row, FitColumns, IsDeclared, EndsWord, IsColumnValue}
+use Rattle.action_report.proofs.Vocabulary.{marked_values}
 
 abbrev pub commas : List Value → List ℕ
 commas values = flat_map (λ next. 44 ∷ spelled next) values

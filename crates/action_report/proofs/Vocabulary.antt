@@ -1,9 +1,6 @@
 -- The words in which the proofs of this crate speak: those of std, of the crates below and of its own specs.
-pub use Rattle.std.proofs.Common.{All, Bool, Bor, Contains, Err, IfNone, IfOk, IsTrue, List, MatchResult, None, Ok}
-pub use Rattle.std.proofs.Common.{Option, Result, Some, [], ap, append_assoc, arith, codes, cond, decimal, false}
-pub use Rattle.std.proofs.Common.{length, map, refl, rules, slice_get, slice_index, slice_index_or, subst, suc, sym}
-pub use Rattle.std.proofs.Common.{take, true, zero, zero-add, ℕ, ◌&&◌, ◌++◌, ◌+◌, ◌<◌, ◌^◌}
-pub use Rattle.std.proofs.Common.{◌∙◌, ◌∷◌, ◌≡◌, ◌≤◌}
+pub use Rattle.std.proofs.Common.{All, Bool, Bor, Contains, Err, IfNone, IfOk, IsTrue, List, MatchResult, None, Ok, Option, Result, Some, [], ap, append_assoc, arith, codes, cond, decimal, false}
+pub use Rattle.std.proofs.Common.{length, map, refl, rules, slice_get, slice_index, slice_index_or, subst, suc, sym, take, true, zero, zero-add, ℕ, ◌&&◌, ◌++◌, ◌+◌, ◌<◌, ◌^◌, ◌∙◌, ◌∷◌, ◌≡◌, ◌≤◌}
 pub use Rattle.std.proofs.lemmas.Bool.Decides.{Decides-eqb, nat_tests}
 pub use Rattle.std.proofs.lemmas.Fmt.{IsAscii-from_digits, decimal_digit, decimal_is_IsNumeral, parse-decimal}
 pub use Rattle.std.proofs.lemmas.List.{map-append}
@@ -25,11 +22,9 @@ pub use Rattle.std.specs.Str.Parse.{digits_value}
 pub use Rattle.std.specs.declared.cmp.Ordering.TheVariants.{Greater, Less}
 pub use Rattle.action_report.specs.machine.Cases.{report_case_a}
 pub use Rattle.action_report.specs.machine.Laws.{OneActionOfLine}
-pub use Rattle.action_report.specs.machine.LineParts.{AddsBindings, EndsWord, IsColumnValue, IsRising, IsRuleNamedOnce}
-pub use Rattle.action_report.specs.machine.LineParts.{cause_of_action, marked_values}
+pub use Rattle.action_report.specs.machine.LineParts.{AddsBindings, EndsWord, IsColumnValue, IsRising, IsRuleNamedOnce, cause_of_action, marked_values}
 pub use Rattle.action_report.specs.machine.ReportedActions.{BindsJust, StandIn}
-pub use Rattle.action_report.specs.meaning.ReportLines.{action_line, binding_text, bindings_text, cause_text, kind_text}
-pub use Rattle.action_report.specs.meaning.ReportLines.{labelled, rule_name, rule_variable_names, when_text}
+pub use Rattle.action_report.specs.meaning.ReportLines.{action_line, binding_text, bindings_text, cause_text, kind_text, labelled, rule_name, rule_variable_names, when_text}
 pub use Rattle.enf_data.proofs.ListFacts.{all_at_middle, behind_front, cancel_front, ok_some, on_err_from}
 pub use Rattle.enf_data.proofs.Lists.{position-cons}
 pub use Rattle.enf_data.proofs.ValuationFacts.{nothing_bound, nothing_rises}
@@ -47,8 +42,7 @@ pub use Rattle.enf_value.proofs.Shapes.{digits_pass}
 pub use Rattle.enf_value.proofs.ValueTokenLaws.{one_value}
 pub use Rattle.enf_value.specs.machine.Laws.{OneTokenAtPlace, PrintedIsToken}
 pub use Rattle.enf_value.specs.machine.ValueCalls.{AppendsPart}
-pub use Rattle.enf_value.specs.meaning.Tokens.{EndsBefore, IsNoDigit, is_name, is_word, is_word_byte, is_word_start}
-pub use Rattle.enf_value.specs.meaning.Tokens.{spelled}
+pub use Rattle.enf_value.specs.meaning.Tokens.{EndsBefore, IsNoDigit, is_name, is_word, is_word_byte, is_word_start, spelled}
 pub use Rattle.formula_reader.specs.machine.StoredRules.{policy_rules_of, rule_of}
 pub use Rattle.formula_reader.specs.machine.WellFormedPolicies.{IsWellFormedPolicy, IsWellFormedRule}
 pub use Rattle.formula_reader.specs.meaning.Resolution.{Rule, variable_text}

@@ -1,7 +1,6 @@
 -- The events at each point of a step are among those at its beginning and those of its actions.
-use Rattle.choice_step.proofs.Vocabulary.{Contains-append, later, first_or_later, here, none_in_nil, Event, subst, sym}
-use Rattle.choice_step.proofs.Vocabulary.{⊎_elim, Contains-append_left, Contains-append_right, Plan, Action}
-use Rattle.choice_step.proofs.Vocabulary.{LiteralKind, Acts, ActsFrom, all_events}
+use Rattle.choice_step.proofs.Vocabulary.{Contains-append, later, first_or_later, here, none_in_nil, Event, subst, sym, ⊎_elim, Contains-append_left, Contains-append_right, Plan, Action, LiteralKind}
+use Rattle.choice_step.proofs.Vocabulary.{Acts, ActsFrom, all_events}
 use Rattle.std.specs.Prelude.{List, Contains, [], ◌∷◌, ◌++◌, ◌≡◌, map}
 use Rattle.obligations.specs.declared.literals.LiteralKind.TheVariants as kind
 

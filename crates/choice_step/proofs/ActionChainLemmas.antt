@@ -1,13 +1,8 @@
 -- What follows of actions that lead from events to events.
-use Rattle.choice_step.proofs.Vocabulary.{◌≡◌, Bool, IsTrue, List, [], ◌∷◌, ◌++◌, map, Contains, refl}
-use Rattle.choice_step.proofs.Vocabulary.{sym, subst, ⊎_elim, AllByRecursion, All-from_recursion}
-use Rattle.choice_step.proofs.Vocabulary.{Contains-append_left, Contains-append_right, Contains-push}
-use Rattle.choice_step.proofs.Vocabulary.{Contains-push_cases, Contains-append, first_or_later, here, none_in_nil}
-use Rattle.choice_step.proofs.Vocabulary.{HasNoRepeats-middle, HasNoRepeats-push, HasNoRepeats, TakesOut, Event, NameId}
-use Rattle.choice_step.proofs.Vocabulary.{Contains-insert, without_middle, Changes, IsCause, event_of, IsCaused}
-use Rattle.choice_step.proofs.Vocabulary.{IsSuppressed, NothingClashes, Plan, LiteralKind, Cause, Suppress, Acts}
-use Rattle.choice_step.proofs.Vocabulary.{ActsFrom, HasActionRole, change_by, change_of, ActionsAreLawful, CausesAlone}
-use Rattle.choice_step.proofs.Vocabulary.{EventsAreActedOnOnce, Action}
+use Rattle.choice_step.proofs.Vocabulary.{◌≡◌, Bool, IsTrue, List, [], ◌∷◌, ◌++◌, map, Contains, refl, sym, subst, ⊎_elim, AllByRecursion, All-from_recursion, Contains-append_left}
+use Rattle.choice_step.proofs.Vocabulary.{Contains-append_right, Contains-push, Contains-push_cases, Contains-append, first_or_later, here, none_in_nil, HasNoRepeats-middle, HasNoRepeats-push}
+use Rattle.choice_step.proofs.Vocabulary.{HasNoRepeats, TakesOut, Event, NameId, Contains-insert, without_middle, Changes, IsCause, event_of, IsCaused, IsSuppressed, NothingClashes, Plan, LiteralKind}
+use Rattle.choice_step.proofs.Vocabulary.{Cause, Suppress, Acts, ActsFrom, HasActionRole, change_by, change_of, ActionsAreLawful, CausesAlone, EventsAreActedOnOnce, Action}
 
 -- ---- lists without repeats
 

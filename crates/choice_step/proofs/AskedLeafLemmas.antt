@@ -1,8 +1,6 @@
 -- Each action is for a leaf that is asked for, at a step with the events that there are in the end and were in between.
-use Rattle.choice_step.proofs.Vocabulary.{◌≡◌, List, [], ◌∷◌, ◌++◌, map, Contains, sym, subst, ⊎_elim}
-use Rattle.choice_step.proofs.Vocabulary.{inl, inr, map-append, Contains-append_left, Contains-append_right}
-use Rattle.choice_step.proofs.Vocabulary.{Contains-append, first_or_later, none_in_nil, Event, Plan, IsReachedBy-wider}
-use Rattle.choice_step.proofs.Vocabulary.{Action, Instance, AreAskedActions, IsAskedAction, all_events, IsAskedLeaf}
+use Rattle.choice_step.proofs.Vocabulary.{◌≡◌, List, [], ◌∷◌, ◌++◌, map, Contains, sym, subst, ⊎_elim, inl, inr, map-append, Contains-append_left, Contains-append_right, Contains-append}
+use Rattle.choice_step.proofs.Vocabulary.{first_or_later, none_in_nil, Event, Plan, IsReachedBy-wider, Action, Instance, AreAskedActions, IsAskedAction, all_events, IsAskedLeaf}
 use Rattle.choice_step.proofs.ActedEventLaws.{IsAmongAll}
 
 -- ---- with more events

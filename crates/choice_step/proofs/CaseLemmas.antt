@@ -1,6 +1,5 @@
 -- What the worked cases have in common.
-use Rattle.choice_step.proofs.Vocabulary.{◌≡◌, List, [], ◌∷◌, Contains, ap, ⊎_elim, arith, first_or_later}
-use Rattle.choice_step.proofs.Vocabulary.{none_in_nil, Event, event_p, event_q, event_r}
+use Rattle.choice_step.proofs.Vocabulary.{◌≡◌, List, [], ◌∷◌, Contains, ap, ⊎_elim, arith, first_or_later, none_in_nil, Event, event_p, event_q, event_r}
 
 pub apart : (e f : Event) → (e.name.0 ≡ f.name.0 → ⊥) → e ≡ f → ⊥
 apart e f other same = other (ap (λ (x : Event). x.name.0) same)

@@ -1,26 +1,17 @@
 -- That something is done at each step: the choice loop over a trace, which ends as it does over a past state.
-use Rattle.choice_step.proofs.Vocabulary.{◌≡◌, ℕ, zero, suc, ◌+◌, ◌≤◌, Bool, true, false, List, []}
-use Rattle.choice_step.proofs.Vocabulary.{◌∷◌, ◌++◌, length, map, Contains, refl, sym, subst, ap, inl, inr}
-use Rattle.choice_step.proofs.Vocabulary.{⊎_elim, ◌⊎◌, arith, true≢false, length-append, AllByRecursion}
-use Rattle.choice_step.proofs.Vocabulary.{flat_map, list_any, Contains-append_left, Contains-append_right}
-use Rattle.choice_step.proofs.Vocabulary.{Contains-push_cases, step_at, Contains-stable, list_any-Decides}
-use Rattle.choice_step.proofs.Vocabulary.{AllByRecursion-append, AllByRecursion-weaker, first_or_later, here, later}
-use Rattle.choice_step.proofs.Vocabulary.{none_in_nil, value_eq, value_eq-Decides, HasNoRepeats, TakesOut, Valuation}
-use Rattle.choice_step.proofs.Vocabulary.{no_values, Event, Step, Const, VarId, Value, Contains-flat_map, Formula}
-use Rattle.choice_step.proofs.Vocabulary.{Classically, IsArgument, NothingClashes, nodes, Plan, CanAskPlan, CanAskOf}
-use Rattle.choice_step.proofs.Vocabulary.{CanAskRoots, ChangesEvents, IsBound, IsLeaf, terms_of, time_now}
-use Rattle.choice_step.proofs.Vocabulary.{last_position, MissingExists, MissingOfExists, IsKnownOn, IsOwnLiteral}
-use Rattle.choice_step.proofs.Vocabulary.{MissedAreOwn, MissedOfAreOwn, Action, Instance, Literal, LiteralKind, Applies}
-use Rattle.choice_step.proofs.Vocabulary.{Candidate, Decides as DecidesStep, IsFirstMissing, CandidateMisses}
-use Rattle.choice_step.proofs.Vocabulary.{MissesNothing, Root, Waiting, action_for, all_asked, is_forced, roots_from}
-use Rattle.choice_step.proofs.Vocabulary.{trace_with_step, Acts, ActsFrom, SomeDecision}
+use Rattle.choice_step.proofs.Vocabulary.{◌≡◌, ℕ, zero, suc, ◌+◌, ◌≤◌, Bool, true, false, List, [], ◌∷◌, ◌++◌, length, map, Contains, refl, sym, subst, ap, inl, inr, ⊎_elim, ◌⊎◌, arith, true≢false}
+use Rattle.choice_step.proofs.Vocabulary.{length-append, AllByRecursion, flat_map, list_any, Contains-append_left, Contains-append_right, Contains-push_cases, step_at, Contains-stable}
+use Rattle.choice_step.proofs.Vocabulary.{list_any-Decides, AllByRecursion-append, AllByRecursion-weaker, first_or_later, here, later, none_in_nil, value_eq, value_eq-Decides, HasNoRepeats, TakesOut}
+use Rattle.choice_step.proofs.Vocabulary.{Valuation, no_values, Event, Step, Const, VarId, Value, Contains-flat_map, Formula, Classically, IsArgument, NothingClashes, nodes, Plan, CanAskPlan}
+use Rattle.choice_step.proofs.Vocabulary.{CanAskOf, CanAskRoots, ChangesEvents, IsBound, IsLeaf, terms_of, time_now, last_position, MissingExists, MissingOfExists, IsKnownOn, IsOwnLiteral}
+use Rattle.choice_step.proofs.Vocabulary.{MissedAreOwn, MissedOfAreOwn, Action, Instance, Literal, LiteralKind, Applies, Candidate, Decides as DecidesStep, IsFirstMissing, CandidateMisses}
+use Rattle.choice_step.proofs.Vocabulary.{MissesNothing, Root, Waiting, action_for, all_asked, is_forced, roots_from, trace_with_step, Acts, ActsFrom, SomeDecision}
 use Rattle.std.specs.Bool.{Decides}
 use Rattle.choice_step.proofs.UniquenessLemmas.{first_is_wanted, last_step}
 use Rattle.choice_step.proofs.KeptValueLemmas.{constant_of, constants_in, constants_of_each}
 use Rattle.choice_step.proofs.FirstActionLemmas.{node_below, nothing_bound}
 use Rattle.choice_step.proofs.LoopLemmas.{acts_more, acts_of, event_is, few_actions, kind_is, role_of_leaf}
-use Rattle.choice_step.proofs.PossibleEventLemmas.{AreGiven, AreOfValues, ArePossible, is_possible, more_possible}
-use Rattle.choice_step.proofs.PossibleEventLemmas.{more_values, possible_over, still_given}
+use Rattle.choice_step.proofs.PossibleEventLemmas.{AreGiven, AreOfValues, ArePossible, is_possible, more_possible, more_values, possible_over, still_given}
 use Rattle.choice_step.proofs.KnownValueLemmas.{arguments_of, bound_is_there, bound_values, leaf_constants}
 use Rattle.choice_step.proofs.WantedActionLemmas.{WantedAs}
 use Rattle.obligations.specs.declared.literals.LiteralKind.TheVariants as kind

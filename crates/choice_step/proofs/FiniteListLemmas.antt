@@ -1,8 +1,6 @@
 -- Lists without repeats among finitely many items, and the finitely many rows over some values.
-use Rattle.choice_step.proofs.Vocabulary.{◌≡◌, ℕ, zero, suc, ◌+◌, ◌<◌, ◌≤◌, List, [], ◌∷◌}
-use Rattle.choice_step.proofs.Vocabulary.{length, map, Contains, sym, subst, ⊎_elim, arith, get_or, flat_map}
-use Rattle.choice_step.proofs.Vocabulary.{Contains-map, first_or_later, here, later, none_in_nil, HasNoRepeats}
-use Rattle.choice_step.proofs.Vocabulary.{Contains-flat_map}
+use Rattle.choice_step.proofs.Vocabulary.{◌≡◌, ℕ, zero, suc, ◌+◌, ◌<◌, ◌≤◌, List, [], ◌∷◌, length, map, Contains, sym, subst, ⊎_elim, arith, get_or, flat_map, Contains-map, first_or_later, here}
+use Rattle.choice_step.proofs.Vocabulary.{later, none_in_nil, HasNoRepeats, Contains-flat_map}
 
 -- ---- no more different items than there are
 

@@ -1,20 +1,11 @@
 -- The first of some that are asked at a step, and the action for it.
-use Rattle.choice_step.proofs.Vocabulary.{◌≡◌, ℕ, zero, suc, ◌+◌, ◌<◌, ◌≤◌, Bool, List, []}
-use Rattle.choice_step.proofs.Vocabulary.{◌∷◌, ◌++◌, Option, None, Some, length, map, Contains, drop, get_or}
-use Rattle.choice_step.proofs.Vocabulary.{take, refl, sym, subst, ap, ◌∙◌, ⊎_elim, inl, inr, arith, IfSome}
-use Rattle.choice_step.proofs.Vocabulary.{slice_get, Bor, get-empty, AllByRecursion, find, flat_map, remove}
-use Rattle.choice_step.proofs.Vocabulary.{Contains-append_left, Contains-append_right, cases_lt, none-some, same_Some}
-use Rattle.choice_step.proofs.Vocabulary.{AllByRecursion-append, AllByRecursion-find, AllByRecursion-from_contains}
-use Rattle.choice_step.proofs.Vocabulary.{Contains-append, first_or_later, here, later, none_in_nil, there_from_get}
-use Rattle.choice_step.proofs.Vocabulary.{Valuation, no_values, variable_cmp, Step, Value, Contains-flat_map}
-use Rattle.choice_step.proofs.Vocabulary.{has_number, nodes, nodes_of, Plan, CausePlan, SuppressPlan, Both, Either}
-use Rattle.choice_step.proofs.Vocabulary.{TestOr, Guarded, EventuallyPlan, AlwaysPlan, UntilPlan, NextPlan, IsBound}
-use Rattle.choice_step.proofs.Vocabulary.{IsKnownAt, IsWanted, IsWantedOf, IsNowOf, time_now, Missing, node_of}
-use Rattle.choice_step.proofs.Vocabulary.{FirstMissing, FirstMissingOf, FirstOf, Action, Instance, Literal, Now, shown}
-use Rattle.choice_step.proofs.Vocabulary.{Candidate, IsFirstMissing, CandidateMisses, MissesNothing, Root, Waiting}
-use Rattle.choice_step.proofs.Vocabulary.{action_at, action_at_root, action_for, is_forced, roots_from, CoversMet}
-use Rattle.choice_step.proofs.Vocabulary.{IsActionFor, action_by, first_literal, rule_by, IsKnownFor, IsLiteralAt}
-use Rattle.choice_step.proofs.Vocabulary.{IsWantedAt, Asked}
+use Rattle.choice_step.proofs.Vocabulary.{◌≡◌, ℕ, zero, suc, ◌+◌, ◌<◌, ◌≤◌, Bool, List, [], ◌∷◌, ◌++◌, Option, None, Some, length, map, Contains, drop, get_or, take, refl, sym, subst, ap, ◌∙◌, ⊎_elim}
+use Rattle.choice_step.proofs.Vocabulary.{inl, inr, arith, IfSome, slice_get, Bor, get-empty, AllByRecursion, find, flat_map, remove, Contains-append_left, Contains-append_right, cases_lt, none-some}
+use Rattle.choice_step.proofs.Vocabulary.{same_Some, AllByRecursion-append, AllByRecursion-find, AllByRecursion-from_contains, Contains-append, first_or_later, here, later, none_in_nil}
+use Rattle.choice_step.proofs.Vocabulary.{there_from_get, Valuation, no_values, variable_cmp, Step, Value, Contains-flat_map, has_number, nodes, nodes_of, Plan, CausePlan, SuppressPlan, Both, Either}
+use Rattle.choice_step.proofs.Vocabulary.{TestOr, Guarded, EventuallyPlan, AlwaysPlan, UntilPlan, NextPlan, IsBound, IsKnownAt, IsWanted, IsWantedOf, IsNowOf, time_now, Missing, node_of, FirstMissing}
+use Rattle.choice_step.proofs.Vocabulary.{FirstMissingOf, FirstOf, Action, Instance, Literal, Now, shown, Candidate, IsFirstMissing, CandidateMisses, MissesNothing, Root, Waiting, action_at}
+use Rattle.choice_step.proofs.Vocabulary.{action_at_root, action_for, is_forced, roots_from, CoversMet, IsActionFor, action_by, first_literal, rule_by, IsKnownFor, IsLiteralAt, IsWantedAt, Asked}
 use Rattle.std.specs.Prelude.{slice_index_or}
 use Rattle.choice_step.specs.declared.first_missing.Asked.TheVariants as who
 

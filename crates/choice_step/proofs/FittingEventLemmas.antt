@@ -1,19 +1,11 @@
 -- The events that are emitted pass a test: at a step action by action, and then step by step.
-use Rattle.choice_step.proofs.Vocabulary.{◌≡◌, ◌∙◌, ℕ, zero, suc, ◌<◌, Bool, IsTrue, List, []}
-use Rattle.choice_step.proofs.Vocabulary.{◌∷◌, ◌++◌, length, Contains, Option, None, Some, ⊎_elim, refl}
-use Rattle.choice_step.proofs.Vocabulary.{sym, subst, arith, length-append, AllByRecursion, AllByRecursion-append}
-use Rattle.choice_step.proofs.Vocabulary.{AllByRecursion-contains, Contains-append, first_or_later, here, none_in_nil}
-use Rattle.choice_step.proofs.Vocabulary.{Valuation, no_values, values_of_terms, Event, NameId, Step, VarId, Value}
-use Rattle.choice_step.proofs.Vocabulary.{Contains-insert, Formula, Record, StepRecord, Tick, recorded, time_of}
-use Rattle.choice_step.proofs.Vocabulary.{StepKind, System, Inserted, Plan, CausePlan, SuppressPlan, Both, Either}
-use Rattle.choice_step.proofs.Vocabulary.{TestOr, Guarded, EventuallyPlan, AlwaysPlan, UntilPlan, NextPlan}
-use Rattle.choice_step.proofs.Vocabulary.{AtEach-below, AtEach-root, AtEach, scoped_nodes, AreWellFormed, IsLeaf}
-use Rattle.choice_step.proofs.Vocabulary.{terms_of, time_now, Pend, AreRight, IsRightLiteral, MissedIsRight}
-use Rattle.choice_step.proofs.Vocabulary.{MissedOfIsRight, Action, Instance, Literal, LiteralKind, Applies, ActedStep}
-use Rattle.choice_step.proofs.Vocabulary.{is_inserted, steps_of, Follows, GoesOut, InsertsSteps, StepGoesOut, Candidate}
-use Rattle.choice_step.proofs.Vocabulary.{Decides, IsFirstMissing, all_asked, is_forced, trace_with_step}
-use Rattle.choice_step.proofs.Vocabulary.{TraceEventsFit, CausesFit, EventsFit, KeepFitting, DecidedFits, DrainFits}
-use Rattle.choice_step.proofs.Vocabulary.{FollowedFits}
+use Rattle.choice_step.proofs.Vocabulary.{◌≡◌, ◌∙◌, ℕ, zero, suc, ◌<◌, Bool, IsTrue, List, [], ◌∷◌, ◌++◌, length, Contains, Option, None, Some, ⊎_elim, refl, sym, subst, arith, length-append}
+use Rattle.choice_step.proofs.Vocabulary.{AllByRecursion, AllByRecursion-append, AllByRecursion-contains, Contains-append, first_or_later, here, none_in_nil, Valuation, no_values, values_of_terms}
+use Rattle.choice_step.proofs.Vocabulary.{Event, NameId, Step, VarId, Value, Contains-insert, Formula, Record, StepRecord, Tick, recorded, time_of, StepKind, System, Inserted, Plan, CausePlan}
+use Rattle.choice_step.proofs.Vocabulary.{SuppressPlan, Both, Either, TestOr, Guarded, EventuallyPlan, AlwaysPlan, UntilPlan, NextPlan, AtEach-below, AtEach-root, AtEach, scoped_nodes, AreWellFormed}
+use Rattle.choice_step.proofs.Vocabulary.{IsLeaf, terms_of, time_now, Pend, AreRight, IsRightLiteral, MissedIsRight, MissedOfIsRight, Action, Instance, Literal, LiteralKind, Applies, ActedStep}
+use Rattle.choice_step.proofs.Vocabulary.{is_inserted, steps_of, Follows, GoesOut, InsertsSteps, StepGoesOut, Candidate, Decides, IsFirstMissing, all_asked, is_forced, trace_with_step, TraceEventsFit}
+use Rattle.choice_step.proofs.Vocabulary.{CausesFit, EventsFit, KeepFitting, DecidedFits, DrainFits, FollowedFits}
 use Rattle.choice_step.proofs.JustificationLemmas.{MissesRoot, MissesWaiting, first_of}
 use Rattle.obligations.specs.declared.literals.LiteralKind.TheVariants as kind
 
@@ -121,8 +113,8 @@ module _ (fits : Event → Bool) where
         decided_fits before (action ∷ actions) after fit_before (asked, literal, between, first, acts, applies, more) =
             decided_fits between actions after (applied literal.kind literal.event before between (first_fits before fit_before asked literal first) fit_before applies) more
 
-      goes_out_fits : (k : StepKind) (time : ℕ) (events : List Event) (o : ActedStep) → EventsFit fits events → GoesOut plans trace k time events o → EventsFit fits o.step.events
-      goes_out_fits k time events o fit_events goes =
+      emitted_fits : (k : StepKind) (time : ℕ) (events : List Event) (o : ActedStep) → EventsFit fits events → GoesOut plans trace k time events o → EventsFit fits o.step.events
+      emitted_fits k time events o fit_events goes =
           decided_fits goes.pending goes.pend (is_inserted k) time events o.actions o.step.events fit_events goes.decided
 
     -- ---- step by step
@@ -130,13 +122,13 @@ module _ (fits : Event → Bool) where
     inserts_fit : (out : List ActedStep) (trace : List Step) (until : Option ℕ) → TraceEventsFit fits trace → InsertsSteps plans trace until out → OutFits out
     inserts_fit [] trace until fit inserts = tt
     inserts_fit (o ∷ out) trace until fit (deadline, least, passed, goes, more) =
-        let now = goes_out_fits trace fit Inserted deadline [] o (λ event none. absurd (none_in_nil event none)) goes in
+        let now = emitted_fits trace fit Inserted deadline [] o (λ event none. absurd (none_in_nil event none)) goes in
         (now, inserts_fit out (trace ++ o.step ∷ []) until (both_fit trace (o.step ∷ []) fit (step_fits o.step now)) more)
 
     record_fits : (next : Record) (records : List Record) (trace : List Step) (answer : List ActedStep) → TraceEventsFit fits trace → TraceEventsFit fits (recorded (next ∷ records))
         → StepGoesOut plans trace next answer → OutFits answer × TraceEventsFit fits (recorded records)
     record_fits (StepRecord step) records trace answer fit given (o, goes, is) = (
-      subst OutFits (sym is) (goes_out_fits trace fit System step.time step.events o (λ event there. given zero event there) goes, tt),
+      subst OutFits (sym is) (emitted_fits trace fit System step.time step.events o (λ event there. given zero event there) goes, tt),
       λ i event there. given (suc i) event there,
     )
     record_fits (Tick time) records trace answer fit given is = (subst OutFits (sym is) tt, given)

@@ -1,14 +1,9 @@
 -- That something is emitted, where inserted steps end.
-use Rattle.choice_step.proofs.Vocabulary.{◌≡◌, ℕ, zero, suc, ◌+◌, ◌<◌, ◌≤◌, Bool, true, false}
-use Rattle.choice_step.proofs.Vocabulary.{List, [], ◌∷◌, ◌++◌, Option, None, Some, Contains, refl, sym, subst}
-use Rattle.choice_step.proofs.Vocabulary.{inl, inr, ⊎_elim, ◌⊎◌, arith, cases_lt, false≢true, All-contains}
-use Rattle.choice_step.proofs.Vocabulary.{All-from_recursion, AllByRecursion-from_contains, first_or_later, here, later}
-use Rattle.choice_step.proofs.Vocabulary.{none_in_nil, HasNoRepeats, Event, Step, VarId, Formula, Record, StepRecord}
-use Rattle.choice_step.proofs.Vocabulary.{Tick, time_of, StepKind, System, Inserted, NothingClashes, has_deadline, Plan}
-use Rattle.choice_step.proofs.Vocabulary.{PendCanBeAsked, PendExists, AtNode, HasDeadline, NoneIsOver, Pend, node_of}
-use Rattle.choice_step.proofs.Vocabulary.{PlansStand, CanAskRoots, Instance, ActedStep, is_inserted, steps_of, Follows}
-use Rattle.choice_step.proofs.Vocabulary.{GoesOut, InsertsSteps, IsLeastDeadline, IsPassed, NoneIsPassed, StepGoesOut}
-use Rattle.choice_step.proofs.Vocabulary.{AreDistinct, IsReach, SomeDecision, SomeFollows, SomeInserts}
+use Rattle.choice_step.proofs.Vocabulary.{◌≡◌, ℕ, zero, suc, ◌+◌, ◌<◌, ◌≤◌, Bool, true, false, List, [], ◌∷◌, ◌++◌, Option, None, Some, Contains, refl, sym, subst, inl, inr, ⊎_elim, ◌⊎◌, arith}
+use Rattle.choice_step.proofs.Vocabulary.{cases_lt, false≢true, All-contains, All-from_recursion, AllByRecursion-from_contains, first_or_later, here, later, none_in_nil, HasNoRepeats, Event, Step}
+use Rattle.choice_step.proofs.Vocabulary.{VarId, Formula, Record, StepRecord, Tick, time_of, StepKind, System, Inserted, NothingClashes, has_deadline, Plan, PendCanBeAsked, PendExists, AtNode}
+use Rattle.choice_step.proofs.Vocabulary.{HasDeadline, NoneIsOver, Pend, node_of, PlansStand, CanAskRoots, Instance, ActedStep, is_inserted, steps_of, Follows, GoesOut, InsertsSteps, IsLeastDeadline}
+use Rattle.choice_step.proofs.Vocabulary.{IsPassed, NoneIsPassed, StepGoesOut, AreDistinct, IsReach, SomeDecision, SomeFollows, SomeInserts}
 use Rattle.choice_step.proofs.UniquenessLemmas.{distinct_behind}
 
 -- ---- the least deadline

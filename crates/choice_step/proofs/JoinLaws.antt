@@ -1,7 +1,6 @@
 -- What is emitted for records and after that for more of them is emitted for all; and all of it is justified.
-use Rattle.choice_step.proofs.Vocabulary.{Step, append_assoc, ap, sym, ◌∙◌, subst, refl, map-append, StepKind}
-use Rattle.choice_step.proofs.Vocabulary.{Inserted, System, Record, Plan, ActedStep, StepIsJustified, AllAreJustified}
-use Rattle.choice_step.proofs.Vocabulary.{steps_of, Follows}
+use Rattle.choice_step.proofs.Vocabulary.{Step, append_assoc, ap, sym, ◌∙◌, subst, refl, map-append, StepKind, Inserted, System, Record, Plan, ActedStep, StepIsJustified, AllAreJustified, steps_of}
+use Rattle.choice_step.proofs.Vocabulary.{Follows}
 use Rattle.std.proofs.lemmas.List.{append-nil}
 use Rattle.std.specs.Prelude.{◌≡◌, List, ◌++◌, [], ◌∷◌}
 

@@ -1,23 +1,13 @@
 -- Each action that is decided is justified.
-use Rattle.choice_step.proofs.Vocabulary.{◌≡◌, ◌⊎◌, ◌==◌, ℕ, suc, ◌+◌, ◌<◌, ◌≤◌, Bool}
-use Rattle.choice_step.proofs.Vocabulary.{true, false, List, [], ◌∷◌, ◌++◌, length, map, All, Contains, Some}
-use Rattle.choice_step.proofs.Vocabulary.{IsTrue, inl, inr, ⊎_elim, refl, sym, ap, subst, ◌∙◌, arith}
-use Rattle.choice_step.proofs.Vocabulary.{length-append, slice_get, AllByRecursion, eqb-true, false≢true, IsTrace}
-use Rattle.choice_step.proofs.Vocabulary.{AllByRecursion-contains, here, later, there_from_get, HasNoRepeats, no_values}
-use Rattle.choice_step.proofs.Vocabulary.{Event, Step, Sat, last_time, TraceGrows, StepKind, System, Inserted}
-use Rattle.choice_step.proofs.Vocabulary.{EndsInTime, IsWellFormed, IsLost, LostStaysLost, OwedStaysOwed, is_future}
-use Rattle.choice_step.proofs.Vocabulary.{nodes, node_number, node_in, formula_for, Plan, CausePlan, SuppressPlan, Both}
-use Rattle.choice_step.proofs.Vocabulary.{Either, TestOr, Guarded, EventuallyPlan, AlwaysPlan, UntilPlan, NextPlan}
-use Rattle.choice_step.proofs.Vocabulary.{IsNodeByNumber, first_node, time_now, IsJustified, floor, Missing}
-use Rattle.choice_step.proofs.Vocabulary.{last_position, SomethingMissedIsLost, DeadlineIsNeeded, MissedIsServed}
-use Rattle.choice_step.proofs.Vocabulary.{MissedIsServedPending, PendingIsEarlier, PendingIsOwed}
-use Rattle.choice_step.proofs.Vocabulary.{SomethingMissedIsLostPending, time_behind, PendCanBeAsked}
-use Rattle.choice_step.proofs.Vocabulary.{WellFormedCanBeAsked, WellFormedStand, IsClean, MissingOf, NoneIsOver, Pend}
-use Rattle.choice_step.proofs.Vocabulary.{node_of, PendIsOne, PlansStand, CanAskOf, Action, Instance, Literal}
-use Rattle.choice_step.proofs.Vocabulary.{LiteralKind, Past, Applies, AreJustified, is_inserted, Candidate, Decides}
-use Rattle.choice_step.proofs.Vocabulary.{IsFirstMissing, Root, Waiting, action_for, all_asked, is_forced, roots_from}
-use Rattle.choice_step.proofs.Vocabulary.{trace_with_step, WillDecide, DecidedAreJustified, LeastDeadlineIsNeeded}
-use Rattle.choice_step.proofs.Vocabulary.{WillBeJustified}
+use Rattle.choice_step.proofs.Vocabulary.{◌≡◌, ◌⊎◌, ◌==◌, ℕ, suc, ◌+◌, ◌<◌, ◌≤◌, Bool, true, false, List, [], ◌∷◌, ◌++◌, length, map, All, Contains, Some, IsTrue, inl, inr, ⊎_elim, refl, sym, ap}
+use Rattle.choice_step.proofs.Vocabulary.{subst, ◌∙◌, arith, length-append, slice_get, AllByRecursion, eqb-true, false≢true, IsTrace, AllByRecursion-contains, here, later, there_from_get}
+use Rattle.choice_step.proofs.Vocabulary.{HasNoRepeats, no_values, Event, Step, Sat, last_time, TraceGrows, StepKind, System, Inserted, EndsInTime, IsWellFormed, IsLost, LostStaysLost, OwedStaysOwed}
+use Rattle.choice_step.proofs.Vocabulary.{is_future, nodes, node_number, node_in, formula_for, Plan, CausePlan, SuppressPlan, Both, Either, TestOr, Guarded, EventuallyPlan, AlwaysPlan, UntilPlan}
+use Rattle.choice_step.proofs.Vocabulary.{NextPlan, IsNodeByNumber, first_node, time_now, IsJustified, floor, Missing, last_position, SomethingMissedIsLost, DeadlineIsNeeded, MissedIsServed}
+use Rattle.choice_step.proofs.Vocabulary.{MissedIsServedPending, PendingIsEarlier, PendingIsOwed, SomethingMissedIsLostPending, time_behind, PendCanBeAsked, WellFormedCanBeAsked, WellFormedStand}
+use Rattle.choice_step.proofs.Vocabulary.{IsClean, MissingOf, NoneIsOver, Pend, node_of, PendIsOne, PlansStand, CanAskOf, Action, Instance, Literal, LiteralKind, Past, Applies, AreJustified}
+use Rattle.choice_step.proofs.Vocabulary.{is_inserted, Candidate, Decides, IsFirstMissing, Root, Waiting, action_for, all_asked, is_forced, roots_from, trace_with_step, WillDecide}
+use Rattle.choice_step.proofs.Vocabulary.{DecidedAreJustified, LeastDeadlineIsNeeded, WillBeJustified}
 use Rattle.std.proofs.lemmas.List.{append-nil}
 use Rattle.choice_step.proofs.UniquenessLemmas.{first_leaves_distinct, last_step}
 use Rattle.choice_step.proofs.LoopLemmas.{event_is, kind_is}

@@ -1,11 +1,7 @@
 -- Finite lists of the values that past states keep and that formulas have as constants.
-use Rattle.choice_step.proofs.Vocabulary.{◌≡◌, ℕ, List, [], ◌∷◌, ◌++◌, reverse, Contains, sym, subst}
-use Rattle.choice_step.proofs.Vocabulary.{⊎_elim, ◌⊎◌, flat_map, Contains-append_left, Contains-append_right}
-use Rattle.choice_step.proofs.Vocabulary.{here, there_from_get, Term, Var, Const, Value, Contains-flat_map, Formula}
-use Rattle.choice_step.proofs.Vocabulary.{True, False, Atom, Equal, Less, AtMost, Not, And, Or, Implies, Exists, Forall}
-use Rattle.choice_step.proofs.Vocabulary.{Prev, Next, Once, Historically, Since, Eventually, Always, Until}
-use Rattle.choice_step.proofs.Vocabulary.{IsFormulaConstant, pairs_of_last, KeptPair, IsConstantOf, IsKeptValue}
-use Rattle.choice_step.proofs.Vocabulary.{StoresFor, pair_of, KeptRow, Memory, OperatorState}
+use Rattle.choice_step.proofs.Vocabulary.{◌≡◌, ℕ, List, [], ◌∷◌, ◌++◌, reverse, Contains, sym, subst, ⊎_elim, ◌⊎◌, flat_map, Contains-append_left, Contains-append_right, here, there_from_get, Term}
+use Rattle.choice_step.proofs.Vocabulary.{Var, Const, Value, Contains-flat_map, Formula, True, False, Atom, Equal, Less, AtMost, Not, And, Or, Implies, Exists, Forall, Prev, Next, Once, Historically}
+use Rattle.choice_step.proofs.Vocabulary.{Since, Eventually, Always, Until, IsFormulaConstant, pairs_of_last, KeptPair, IsConstantOf, IsKeptValue, StoresFor, pair_of, KeptRow, Memory, OperatorState}
 use Rattle.past_state.specs.declared.memories.Memory.TheVariants as memories
 
 -- ---- what is kept

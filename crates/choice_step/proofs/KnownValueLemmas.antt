@@ -1,10 +1,7 @@
 -- The finitely many values that are known to the choice loop at a step.
-use Rattle.choice_step.proofs.Vocabulary.{◌≡◌, Bool, true, false, cond, List, [], ◌∷◌, ◌++◌, Some, map}
-use Rattle.choice_step.proofs.Vocabulary.{Contains, sym, ◌∙◌, ⊎_elim, arith, get-entries, flat_map, eq_by_cmp}
-use Rattle.choice_step.proofs.Vocabulary.{Contains-append_left, Contains-append_right, none-some, same_Some, here}
-use Rattle.choice_step.proofs.Vocabulary.{later, Valuation, bindings, variable_cmp, Event, Const, VarId, Value}
-use Rattle.choice_step.proofs.Vocabulary.{Contains-flat_map, IsArgument, Past, formulas_of_guards, nodes, Plan, IsBound}
-use Rattle.choice_step.proofs.Vocabulary.{terms_of, Instance, IsKnownBehind}
+use Rattle.choice_step.proofs.Vocabulary.{◌≡◌, Bool, true, false, cond, List, [], ◌∷◌, ◌++◌, Some, map, Contains, sym, ◌∙◌, ⊎_elim, arith, get-entries, flat_map, eq_by_cmp, Contains-append_left}
+use Rattle.choice_step.proofs.Vocabulary.{Contains-append_right, none-some, same_Some, here, later, Valuation, bindings, variable_cmp, Event, Const, VarId, Value, Contains-flat_map, IsArgument, Past}
+use Rattle.choice_step.proofs.Vocabulary.{formulas_of_guards, nodes, Plan, IsBound, terms_of, Instance, IsKnownBehind}
 use Rattle.std.specs.FinMap.Entries.{find}
 use Rattle.choice_step.proofs.KeptValueLemmas.{constant_of, constants_in, constants_of_each, kept_is_there, kept_values}
 use Rattle.choice_step.proofs.PossibleEventLemmas.{AreOfValues, possible_over}

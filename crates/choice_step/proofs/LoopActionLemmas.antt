@@ -1,29 +1,17 @@
 -- What is left of what a root misses after an action on a name that no plan looks for, and the first that misses something
 -- there.
-use Rattle.choice_step.proofs.Vocabulary.{◌≡◌, ◌↔◌, ℕ, zero, suc, ◌+◌, ◌<◌, Bool, List, []}
-use Rattle.choice_step.proofs.Vocabulary.{◌∷◌, ◌++◌, Some, length, map, Contains, drop, get_or, take, refl}
-use Rattle.choice_step.proofs.Vocabulary.{sym, subst, ap, ◌∙◌, ⊎_elim, inl, inr, arith, append-nil}
-use Rattle.choice_step.proofs.Vocabulary.{append_assoc, length-append, slice_get, AllByRecursion, flat_map}
-use Rattle.choice_step.proofs.Vocabulary.{Contains-append_left, Contains-append_right, Contains-push}
-use Rattle.choice_step.proofs.Vocabulary.{Contains-push_cases, none-some, same_Some, no_step, step_at}
-use Rattle.choice_step.proofs.Vocabulary.{AllByRecursion-append, AllByRecursion-contains, Contains-append}
-use Rattle.choice_step.proofs.Vocabulary.{first_or_later, here, later, HasNoRepeats-middle, HasNoRepeats, no_values}
-use Rattle.choice_step.proofs.Vocabulary.{Event, NameId, Step, VarId, Contains-insert, Formula, HaveSameEvents, Past}
-use Rattle.choice_step.proofs.Vocabulary.{guard_names, NothingClashes, nodes, Plan, CausePlan, SuppressPlan, Both}
-use Rattle.choice_step.proofs.Vocabulary.{Either, TestOr, Guarded, EventuallyPlan, AlwaysPlan, UntilPlan, NextPlan}
-use Rattle.choice_step.proofs.Vocabulary.{ChangesEvents, IsLeaf, placed_guard, time_now, Missing, last_position}
-use Rattle.choice_step.proofs.Vocabulary.{MissingOf, AreThoseWith, DiffersIn, HaveMore, IsStillWanted, IsUnread}
-use Rattle.choice_step.proofs.Vocabulary.{IsUnreadIn, IsPlain, UnreadInstanceStaysMet, UnreadLeavesRest, UnreadStaysMet}
-use Rattle.choice_step.proofs.Vocabulary.{CanAskOf, CanAskRoots, Action, Instance, Literal, LiteralKind, AllCanBeAsked}
-use Rattle.choice_step.proofs.Vocabulary.{GoesFrom, IsFoundFrom, ActsInTurn, AreSpared, AreSparedBehind, HasNoChoices}
-use Rattle.choice_step.proofs.Vocabulary.{Applies, MissesNothing, Root, Waiting, action_at, action_at_root, all_asked}
-use Rattle.choice_step.proofs.Vocabulary.{is_forced, roots_from, trace_with_step, AreLiteralsBehind, IsLiteralBehind}
-use Rattle.choice_step.proofs.Vocabulary.{IsWantedFrom, IsActionFor, WillFind, IsLeftAt, WillBeLeft, WillBeMetBefore}
-use Rattle.choice_step.proofs.Vocabulary.{Place}
+use Rattle.choice_step.proofs.Vocabulary.{◌≡◌, ◌↔◌, ℕ, zero, suc, ◌+◌, ◌<◌, Bool, List, [], ◌∷◌, ◌++◌, Some, length, map, Contains, drop, get_or, take, refl, sym, subst, ap, ◌∙◌, ⊎_elim, inl, inr}
+use Rattle.choice_step.proofs.Vocabulary.{arith, append-nil, append_assoc, length-append, slice_get, AllByRecursion, flat_map, Contains-append_left, Contains-append_right, Contains-push}
+use Rattle.choice_step.proofs.Vocabulary.{Contains-push_cases, none-some, same_Some, no_step, step_at, AllByRecursion-append, AllByRecursion-contains, Contains-append, first_or_later, here, later}
+use Rattle.choice_step.proofs.Vocabulary.{HasNoRepeats-middle, HasNoRepeats, no_values, Event, NameId, Step, VarId, Contains-insert, Formula, HaveSameEvents, Past, guard_names, NothingClashes, nodes}
+use Rattle.choice_step.proofs.Vocabulary.{Plan, CausePlan, SuppressPlan, Both, Either, TestOr, Guarded, EventuallyPlan, AlwaysPlan, UntilPlan, NextPlan, ChangesEvents, IsLeaf, placed_guard, time_now}
+use Rattle.choice_step.proofs.Vocabulary.{Missing, last_position, MissingOf, AreThoseWith, DiffersIn, HaveMore, IsStillWanted, IsUnread, IsUnreadIn, IsPlain, UnreadInstanceStaysMet, UnreadLeavesRest}
+use Rattle.choice_step.proofs.Vocabulary.{UnreadStaysMet, CanAskOf, CanAskRoots, Action, Instance, Literal, LiteralKind, AllCanBeAsked, GoesFrom, IsFoundFrom, ActsInTurn, AreSpared, AreSparedBehind}
+use Rattle.choice_step.proofs.Vocabulary.{HasNoChoices, Applies, MissesNothing, Root, Waiting, action_at, action_at_root, all_asked, is_forced, roots_from, trace_with_step, AreLiteralsBehind}
+use Rattle.choice_step.proofs.Vocabulary.{IsLiteralBehind, IsWantedFrom, IsActionFor, WillFind, IsLeftAt, WillBeLeft, WillBeMetBefore, Place, HasActionRole, IsCaused, GainsNoSuppressed}
 use Rattle.choice_step.proofs.ActionChainLemmas.{not_behind}
 use Rattle.choice_step.proofs.UniquenessLemmas.{last_step}
-use Rattle.choice_step.proofs.FirstActionLemmas.{Met, covers_again, waiting_met, found_behind, one_more_root}
-use Rattle.choice_step.proofs.FirstActionLemmas.{root_first}
+use Rattle.choice_step.proofs.FirstActionLemmas.{Met, covers_again, waiting_met, found_behind, one_more_root, root_first}
 use Rattle.choice_step.proofs.LoopLemmas.{role_of_leaf}
 use Rattle.choice_step.proofs.SparedNameLemmas.{spared_unread}
 use Rattle.obligations.specs.declared.literals.LiteralKind.TheVariants as kind
@@ -69,6 +57,17 @@ more_after kind.Cause event events after is = λ other there.
     subst (λ l. Contains l other) (sym is) (Contains-append_left events (event ∷ []) other there)
 more_after kind.Suppress event events after taken = λ other there.
     subst (λ l. Contains l other) (sym taken.was) (Contains-insert taken.front taken.back event other (subst (λ l. Contains l other) taken.is there))
+
+-- of a name that is suppressed no event comes
+gained_once : (plans : List Plan) → NothingClashes plans → (k : LiteralKind) (event : Event) (events after : List Event)
+    → HasActionRole plans k event.name → Applies k event events after → GainsNoSuppressed plans events after
+gained_once plans nothing kind.Cause event events after caused is other named there =
+    ⊎_elim
+    (λ before. before)
+    (λ (same : event ≡ other). absurd (nothing other.name (subst (λ (e : Event). IsCaused plans e.name) same caused, named)))
+    (Contains-push_cases events event other (subst (λ l. Contains l other) is there))
+gained_once plans nothing kind.Suppress event events after role taken other named there =
+    more_after kind.Suppress event events after taken other there
 
 differs : (k : LiteralKind) (event : Event) (events after : List Event) (trace : List Step) (time : ℕ)
     → Applies k event events after → DiffersIn k event.name (trace_with_step trace time events) (trace_with_step trace time after)
@@ -405,6 +404,15 @@ module _ (plans : List Plan) (pending : List Instance) (past : Past) (inserted :
       let first = others_stay action.kind action.event before between applies event (λ same. spared.0 (subst (Contains names) same named)) in
       let rest = names_stay given between actions after names more spared.1 event named in
       (λ there. rest.0 (first.0 there), λ there. first.1 (rest.1 there))
+
+  -- and no event comes of a name that is suppressed
+  pub none_gained : NothingClashes plans → (given before : List Event) (actions : List Action) (after : List Event)
+      → ActsInTurn plans pending past inserted time position given before actions after → GainsNoSuppressed plans before after
+  none_gained nothing given before [] after is event named there = subst (λ l. Contains l event) is there
+  none_gained nothing given before (action ∷ actions) after (between, finds, wanted, applies, more) event named there =
+      gained_once plans nothing action.kind action.event before between
+      (role_of_leaf plans wanted.leaf action.kind action.leaf action.event wanted.there wanted.is) applies event named
+      (none_gained nothing given between actions after more event named there)
 
   -- actions lead on after those that led there
   pub goes_behind : (given before : List Event) (actions : List Action) (between : List Event) (more : List Action) (after : List Event)

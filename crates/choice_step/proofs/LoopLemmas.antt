@@ -1,20 +1,14 @@
 -- What the choice loop keeps from round to round, and why it ends.
-use Rattle.choice_step.proofs.Vocabulary.{◌≡◌, ℕ, ◌≤◌, Bool, List, [], ◌∷◌, ◌++◌, None, Some}
-use Rattle.choice_step.proofs.Vocabulary.{length, map, Contains, refl, sym, subst, ap, ◌∙◌, arith, append-nil}
-use Rattle.choice_step.proofs.Vocabulary.{append_assoc, flat_map, here, none_in_nil, HasNoRepeats, Event, NameId, Step}
-use Rattle.choice_step.proofs.Vocabulary.{Value, from_flat_map, Contains-flat_map, last_time, Past, PastStands}
-use Rattle.choice_step.proofs.Vocabulary.{IsCaused, IsSuppressed, NothingClashes, caused_at, caused_below}
-use Rattle.choice_step.proofs.Vocabulary.{suppressed_at, suppressed_below, nodes, Plan, CausePlan, SuppressPlan, Both}
-use Rattle.choice_step.proofs.Vocabulary.{Either, TestOr, Guarded, EventuallyPlan, AlwaysPlan, UntilPlan, NextPlan}
-use Rattle.choice_step.proofs.Vocabulary.{ChangesEvents, IsLeaf, Action, Instance, Literal, LiteralKind, Applies}
-use Rattle.choice_step.proofs.Vocabulary.{Candidate, Decides, Root, Waiting, action_at, Acts, ActsFrom, HasActionRole}
-use Rattle.choice_step.proofs.Vocabulary.{WillDecide, AreAskedActions, all_events, ActsInTurn, IsWantedFrom, WillFind}
+use Rattle.choice_step.proofs.Vocabulary.{◌≡◌, ℕ, ◌≤◌, Bool, List, [], ◌∷◌, ◌++◌, None, Some, length, map, Contains, refl, sym, subst, ap, ◌∙◌, arith, append-nil, append_assoc, flat_map, here}
+use Rattle.choice_step.proofs.Vocabulary.{none_in_nil, HasNoRepeats, Event, NameId, Step, Value, from_flat_map, Contains-flat_map, last_time, Past, PastStands, IsCaused, IsSuppressed, NothingClashes}
+use Rattle.choice_step.proofs.Vocabulary.{caused_at, caused_below, suppressed_at, suppressed_below, nodes, Plan, CausePlan, SuppressPlan, Both, Either, TestOr, Guarded, EventuallyPlan, AlwaysPlan}
+use Rattle.choice_step.proofs.Vocabulary.{UntilPlan, NextPlan, ChangesEvents, IsLeaf, Action, Instance, Literal, LiteralKind, Applies, Candidate, Decides, Root, Waiting, action_at, Acts, ActsFrom}
+use Rattle.choice_step.proofs.Vocabulary.{HasActionRole, WillDecide, AreAskedActions, all_events, ActsInTurn, IsWantedFrom, WillFind}
 use Rattle.choice_step.proofs.ActedEventLaws.{IsAmongAll}
 use Rattle.choice_step.proofs.ActionChainLemmas.{once}
 use Rattle.choice_step.proofs.AskedLeafLemmas.{all_more, asked_more, asked_none, leaf_wider}
 use Rattle.choice_step.proofs.FiniteListLemmas.{few_among}
-use Rattle.choice_step.proofs.PossibleEventLemmas.{AreGiven, AreOfValues, ArePossible, is_possible, more_possible}
-use Rattle.choice_step.proofs.PossibleEventLemmas.{more_values, possible_over, still_given}
+use Rattle.choice_step.proofs.PossibleEventLemmas.{AreGiven, AreOfValues, ArePossible, is_possible, more_possible, more_values, possible_over, still_given}
 use Rattle.choice_step.proofs.KnownValueLemmas.{given_values, in_universe, possible, universe}
 use Rattle.obligations.specs.declared.literals.LiteralKind.TheVariants as kind
 

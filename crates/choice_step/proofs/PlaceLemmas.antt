@@ -1,14 +1,10 @@
 -- What the loop keeps while it goes on from place to place with the order and the tables with which it began.
-use Rattle.choice_step.proofs.Vocabulary.{◌≡◌, ℕ, ◌+◌, ◌<◌, ◌≤◌, Bool, List, [], ◌∷◌}
-use Rattle.choice_step.proofs.Vocabulary.{◌++◌, None, drop, length, map, sym, subst, ap, ◌∙◌, ⊎_elim, arith}
-use Rattle.choice_step.proofs.Vocabulary.{append-nil, append_assoc, length-append, slice_get, cases_lt, length-map}
-use Rattle.choice_step.proofs.Vocabulary.{Contains-append_left, HasNoRepeats, Event, Step, HaveSameEvents, Past}
-use Rattle.choice_step.proofs.Vocabulary.{guard_names, NothingClashes, Plan, plan_of, TriggersAreMet, Action, Instance}
-use Rattle.choice_step.proofs.Vocabulary.{ActsFor, GoesFrom, StaysMet, AreSparedBehind, CanDecideSituation}
-use Rattle.choice_step.proofs.Vocabulary.{SituationFinds, IsFoundInSituation, IsMetBefore, SituationLeads, NoneIsWoken}
-use Rattle.choice_step.proofs.Vocabulary.{situation_plans, Waiting, roots_from, trace_with_step, RootsAreMet}
-use Rattle.choice_step.proofs.Vocabulary.{action_found, root_literals, rule_found, HasNoneOf, Situation, Found, Place}
-use Rattle.choice_step.proofs.LoopActionLemmas.{goes_behind, names_stay, spared_those}
+use Rattle.choice_step.proofs.Vocabulary.{◌≡◌, ℕ, ◌+◌, ◌<◌, ◌≤◌, Bool, List, [], ◌∷◌, ◌++◌, None, drop, length, map, sym, subst, ap, ◌∙◌, ⊎_elim, arith, append-nil, append_assoc, length-append}
+use Rattle.choice_step.proofs.Vocabulary.{slice_get, cases_lt, length-map, Contains-append_left, HasNoRepeats, Event, Step, HaveSameEvents, Past, guard_names, NothingClashes, Plan, plan_of}
+use Rattle.choice_step.proofs.Vocabulary.{UnwokenMissesNothing, Action, Instance, ActsFor, GoesFrom, StaysMet, AreSparedBehind, CanDecideSituation, SituationFinds, IsFoundInSituation, IsMetBefore}
+use Rattle.choice_step.proofs.Vocabulary.{SituationLeads, NoneIsWoken, situation_plans, Waiting, roots_from, trace_with_step, RootsAreMet, action_found, root_literals, rule_found, HasNoneOf}
+use Rattle.choice_step.proofs.Vocabulary.{GainsNoSuppressed, Situation, Found, Place}
+use Rattle.choice_step.proofs.LoopActionLemmas.{goes_behind, names_stay, none_gained, spared_those}
 use Rattle.choice_step.proofs.WokenRuleLemmas.{all_asleep}
 use Rattle.choice_step.proofs.UniquenessLemmas.{last_step}
 use Rattle.choice_step.proofs.FirstActionLemmas.{covers_none, drop_end, found_behind, no_root}
@@ -21,6 +17,7 @@ module _ (situation : Situation) (waiting : List Instance) (given : List Event) 
   pub record IsOn (start : List Action) (f : Found) (events : List Event) (actions : List Action) : Type 0 where
     pub led : SituationLeads situation given given start events actions
     pub same : HaveSameEvents (guard_names situation.past.now.guards) given events
+    pub fewer : GainsNoSuppressed (situation_plans situation) given events
     pub found : IsFoundInSituation situation given events f
     pub place : IsMetBefore situation waiting events f.place
 
@@ -30,6 +27,7 @@ module _ (situation : Situation) (waiting : List Instance) (given : List Event) 
   on_first start f events is found place = record {
     led = ([], sym (append-nil start), is);
     same = subst (HaveSameEvents (guard_names situation.past.now.guards) given) (sym is) (λ event named. (λ there. there, λ there. there));
+    fewer = subst (GainsNoSuppressed (situation_plans situation) given) (sym is) (λ event named there. there);
     found = subst (λ l. IsFoundInSituation situation given l f) (sym is) found;
     place = subst (λ l. IsMetBefore situation waiting l f.place) (sym is) place;
   }
@@ -94,6 +92,16 @@ module _ (situation : Situation) (waiting : List Instance) (can : CanDecideSitua
       in
       (λ there. next.0 (first.0 there), λ there. first.1 (next.1 there))
 
+  pub fewer_on : (start : List Action) (f : Found) (events : List Event) (actions : List Action) (after : List Event) (all : List Action)
+      → IsOn situation waiting given start f events actions → Acted f events actions after all
+      → GainsNoSuppressed (situation_plans situation) given after
+  fewer_on start f events actions after all on acted event named there =
+      let more = acted situation.pending.now.instances situation.inserted given can.step.roles can.step.all on.found.2 in
+      on.fewer event named
+      (none_gained (situation_plans situation) situation.pending.now.instances situation.past.now situation.inserted
+      situation.time situation.position can.step.roles given events
+      ((action_found situation.time situation.position f) ∷ more.0) after more.2 event named there)
+
   -- and all before the place to go on from is met
   pub place_on : (start : List Action) (f : Found) (events : List Event) (actions : List Action) (after : List Event) (place : Place)
       → IsOn situation waiting given start f events actions
@@ -103,11 +111,12 @@ module _ (situation : Situation) (waiting : List Instance) (can : CanDecideSitua
       stays situation.pending.now.instances waiting situation.inserted given can.step.roles can.step.all on.found.2 on.place
 
   -- where the place is after the pending instances and a rule after which none is woken, nothing is missing
-  pub none_behind : TriggersAreMet → (after : List Event) (rule : ℕ) (place : Place)
-      → HaveSameEvents (guard_names situation.past.now.guards) given after → NoneIsWoken situation given rule
+  pub none_behind : UnwokenMissesNothing → (after : List Event) (rule : ℕ) (place : Place)
+      → HaveSameEvents (guard_names situation.past.now.guards) given after → GainsNoSuppressed (situation_plans situation) given after
+      → NoneIsWoken situation given rule
       → length waiting ≤ place.instances → rule < place.rules → IsMetBefore situation waiting after place
       → SituationFinds situation after None
-  none_behind met after rule place same none all behind before trace stands long later =
+  none_behind unwoken after rule place same fewer none all behind before trace stands long later =
       let plans = situation_plans situation in
       let now : List Step = trace_with_step trace situation.time after in
       let at = before trace stands long later in
@@ -117,8 +126,8 @@ module _ (situation : Situation) (waiting : List Instance) (can : CanDecideSitua
       (λ below. (
         length plans,
         omega arith,
-        all_asleep plans situation.inserted now situation.past.now.guards given after met can.step.all.roots
-            (ap (λ (s : Step). s.events) (last_step trace (record { time = situation.time; events = after }))) same
+        all_asleep plans situation.inserted now situation.past.now.guards given after unwoken can.step.all.roots
+            (ap (λ (s : Step). s.events) (last_step trace (record { time = situation.time; events = after }))) same fewer
             place.rules (length plans) (omega (arith, below))
             (λ r low high. subst (λ l. HasNoneOf (slice_get l r) given) can.wakes (none r (omega (arith, low, behind)) (omega (arith, high, many))))
             at.1,

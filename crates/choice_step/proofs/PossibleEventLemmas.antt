@@ -1,11 +1,8 @@
 -- The finitely many events on which one can act at a step: those of the leaves of plans over some values, and the given ones.
-use Rattle.choice_step.proofs.Vocabulary.{◌≡◌, ℕ, List, [], ◌∷◌, ◌++◌, length, map, Contains, sym}
-use Rattle.choice_step.proofs.Vocabulary.{subst, ⊎_elim, flat_map, map-append, Contains-append_left}
-use Rattle.choice_step.proofs.Vocabulary.{Contains-append_right, Contains-push_cases, Contains-map, Event, Value}
-use Rattle.choice_step.proofs.Vocabulary.{Contains-insert, Contains-flat_map, IsArgument, IsCaused, IsSuppressed}
-use Rattle.choice_step.proofs.Vocabulary.{NothingClashes, nodes, Plan, CausePlan, SuppressPlan, Both, Either, TestOr}
-use Rattle.choice_step.proofs.Vocabulary.{Guarded, EventuallyPlan, AlwaysPlan, UntilPlan, NextPlan, ChangesEvents}
-use Rattle.choice_step.proofs.Vocabulary.{IsLeaf, Action, LiteralKind, Applies, HasActionRole}
+use Rattle.choice_step.proofs.Vocabulary.{◌≡◌, ℕ, List, [], ◌∷◌, ◌++◌, length, map, Contains, sym, subst, ⊎_elim, flat_map, map-append, Contains-append_left, Contains-append_right}
+use Rattle.choice_step.proofs.Vocabulary.{Contains-push_cases, Contains-map, Event, Value, Contains-insert, Contains-flat_map, IsArgument, IsCaused, IsSuppressed, NothingClashes, nodes, Plan}
+use Rattle.choice_step.proofs.Vocabulary.{CausePlan, SuppressPlan, Both, Either, TestOr, Guarded, EventuallyPlan, AlwaysPlan, UntilPlan, NextPlan, ChangesEvents, IsLeaf, Action, LiteralKind, Applies}
+use Rattle.choice_step.proofs.Vocabulary.{HasActionRole}
 use Rattle.choice_step.proofs.FiniteListLemmas.{in_rows_over, rows_over}
 use Rattle.obligations.specs.declared.literals.LiteralKind.TheVariants as kind
 

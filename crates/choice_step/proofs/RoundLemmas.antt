@@ -1,9 +1,7 @@
 -- A round begins with the instances that wait: all others sleep, and miss nothing.
-use Rattle.choice_step.proofs.Vocabulary.{◌≡◌, ℕ, ◌==◌, Bool, false, List, [], ◌∷◌, Contains}
-use Rattle.choice_step.proofs.Vocabulary.{⊎_elim, inl, inr, sym, ap, subst, arith, AllByRecursion, and_right, ne_eqb}
-use Rattle.choice_step.proofs.Vocabulary.{here, later, Event, Step, VarId, Formula, Plan, time_now, MissingOfExists}
-use Rattle.choice_step.proofs.Vocabulary.{MissingOf, CanAskOf, Instance, AllButThose, HasNone, SleepsAt}
-use Rattle.choice_step.proofs.Vocabulary.{SleepersMissNothing, is_forced, trace_with_step, CoversMet}
+use Rattle.choice_step.proofs.Vocabulary.{◌≡◌, ℕ, ◌==◌, Bool, false, List, [], ◌∷◌, Contains, ⊎_elim, inl, inr, sym, ap, subst, arith, AllByRecursion, and_right, ne_eqb, here, later, Event, Step}
+use Rattle.choice_step.proofs.Vocabulary.{VarId, Formula, Plan, time_now, MissingOfExists, MissingOf, CanAskOf, Instance, AllButThose, HasNone, SleepsAt, SleepersMissNothing, is_forced}
+use Rattle.choice_step.proofs.Vocabulary.{trace_with_step, CoversMet}
 use Rattle.choice_step.proofs.UniquenessLemmas.{last_step}
 use Rattle.choice_step.proofs.FirstActionLemmas.{Met}
 

@@ -1,74 +1,45 @@
--- A rule whose root is a guard with triggers misses nothing where the step has no event of them.
-use Rattle.choice_step.proofs.Vocabulary.{rules, ◌≡◌, ℕ, zero, suc, ◌<◌, List, [], ◌∷◌, Option, None}
-use Rattle.choice_step.proofs.Vocabulary.{Some, ◌++◌, All, Contains, length, map, get_or, refl, sym, subst, ap}
-use Rattle.choice_step.proofs.Vocabulary.{⊎_elim, arith, Bor, option_map, option_or, slice_get, All-contains}
-use Rattle.choice_step.proofs.Vocabulary.{All-from_recursion, All-nil, Contains-append_cases, Contains-append_left}
-use Rattle.choice_step.proofs.Vocabulary.{Contains-append_right, none-some, same_Some, step_at}
-use Rattle.choice_step.proofs.Vocabulary.{AllByRecursion-from_contains, none_in_nil, Valuation, with_values, Event}
-use Rattle.choice_step.proofs.Vocabulary.{NameId, Step, VarId, Formula, And, Atom, Exists, Or, HaveSameEvents}
-use Rattle.choice_step.proofs.Vocabulary.{names_in_formula, shown_events, Plan, CausePlan, SuppressPlan, Both, Either}
-use Rattle.choice_step.proofs.Vocabulary.{TestOr, Guarded, EventuallyPlan, AlwaysPlan, UntilPlan, NextPlan}
-use Rattle.choice_step.proofs.Vocabulary.{guard_triggers, of_each, triggers, looks_at, IsGuard, guard_formula}
-use Rattle.choice_step.proofs.Vocabulary.{guard_names, PlacedGuard, TriggersAreMet, CanAskPlan, placed_guard, Missing}
-use Rattle.choice_step.proofs.Vocabulary.{AreGuardRows, last_position, HasNoneOf, IsAway}
-use Rattle.std.specs.List.Sorted.{IsStrictlySortedBy}
+-- A rule misses nothing where the step has no event of a name that wakes it.
+use Rattle.choice_step.proofs.Vocabulary.{◌≡◌, ℕ, zero, suc, ◌<◌, List, [], ◌∷◌, Option, None, Some, ◌++◌, All, Contains, length, map, get_or, refl, sym, subst, ap, ⊎_elim, inl, inr, ◌⊎◌, arith, Bor}
+use Rattle.choice_step.proofs.Vocabulary.{option_map, option_or, slice_get, All-contains, Contains-append_cases, Contains-append_left, here, later, Contains-append_right, none-some, same_Some}
+use Rattle.choice_step.proofs.Vocabulary.{step_at, none_in_nil, flat_map, Contains-flat_map, Valuation, Event, NameId, Step, VarId, Formula, And, Atom, Exists, Or, HaveSameEvents, names_in_formula}
+use Rattle.choice_step.proofs.Vocabulary.{shown_events, Plan, CausePlan, SuppressPlan, Both, Either, TestOr, Guarded, EventuallyPlan, AlwaysPlan, UntilPlan, NextPlan, nodes, suppressed_at}
+use Rattle.choice_step.proofs.Vocabulary.{suppressed_below, IsSuppressed, of_each, triggers, waking_names, looks_at, IsGuard, guard_formula, guard_names, PlacedGuard, CanAskIn, CanAskPlan}
+use Rattle.choice_step.proofs.Vocabulary.{placed_guard, Missing, AreMetBy, UnwokenMissesNothing, last_position, GainsNoSuppressed, HasNoneOf, IsAway}
 
-pub no_row : (trace : List Step) (v : Valuation) (xs : List VarId) (test : Formula) (names : List NameId) → TriggersAreMet
-    → triggers test ≡ Some names → All (IsAway (step_at trace (last_position trace)).events) names
-    → AreGuardRows trace v xs test []
-unfolding IsStrictlySortedBy
-no_row trace v xs test names met are away = record {
-  fit = All-nil (λ row. length row ≡ length xs);
-  rise = search rules;
-  are = λ row fits. (
-    λ there. absurd (none_in_nil row there),
-    λ holds. absurd (met trace (last_position trace) (with_values xs row v) test names are holds
-        (λ found. All-contains (IsAway (step_at trace (last_position trace)).events) names found.0.name away found.2 found.0 found.1 refl)),
-  );
-}
+-- ---- the names that wake a plan are among those of its guards, or the plan suppresses them
 
-pub sleeps : (trace : List Step) (plan : Plan) (v : Valuation) (names : List NameId) → TriggersAreMet
-    → guard_triggers plan ≡ Some names → All (IsAway (step_at trace (last_position trace)).events) names
-    → Missing trace plan v []
-sleeps trace (Guarded node xs guard test body) v names met are away = ([], no_row trace v xs test names met are away, refl)
-sleeps trace (CausePlan node place name terms) v names met are away = absurd (none-some names are)
-sleeps trace (SuppressPlan node place name terms) v names met are away = absurd (none-some names are)
-sleeps trace (Both node left right) v names met are away = absurd (none-some names are)
-sleeps trace (Either node left right) v names met are away = absurd (none-some names are)
-sleeps trace (TestOr node guard test body) v names met are away = absurd (none-some names are)
-sleeps trace (EventuallyPlan node place low high body) v names met are away = absurd (none-some names are)
-sleeps trace (AlwaysPlan node place low high body) v names met are away = absurd (none-some names are)
-sleeps trace (UntilPlan node place low high left right) v names met are away = absurd (none-some names are)
-sleeps trace (NextPlan node place high body) v names met are away = absurd (none-some names are)
+either_named : (a b : Option (List NameId)) (P : NameId → Type 0)
+    → ((names : List NameId) → a ≡ Some names → (name : NameId) → Contains names name → P name)
+    → ((names : List NameId) → b ≡ Some names → (name : NameId) → Contains names name → P name)
+    → (names : List NameId) → option_or a b ≡ Some names → (name : NameId) → Contains names name → P name
+either_named None b P front back names is name there = back names is name there
+either_named (Some own) b P front back names is name there = front names is name there
 
--- ---- the triggers of a guard are among its names
-
-either_within : (a b : Option (List NameId)) (xs ys : List NameId)
-    → ((names : List NameId) → a ≡ Some names → (name : NameId) → Contains names name → Contains xs name)
-    → ((names : List NameId) → b ≡ Some names → (name : NameId) → Contains names name → Contains ys name)
-    → (names : List NameId) → option_or a b ≡ Some names → (name : NameId) → Contains names name → Contains (xs ++ ys) name
-either_within None b xs ys front back names is name there = Contains-append_right xs ys name (back names is name there)
-either_within (Some own) b xs ys front back names is name there = Contains-append_left xs ys name (front names is name there)
-
-each_within : (a b : Option (List NameId)) (xs ys : List NameId)
-    → ((names : List NameId) → a ≡ Some names → (name : NameId) → Contains names name → Contains xs name)
-    → ((names : List NameId) → b ≡ Some names → (name : NameId) → Contains names name → Contains ys name)
-    → (names : List NameId) → of_each a b ≡ Some names → (name : NameId) → Contains names name → Contains (xs ++ ys) name
-each_within None b xs ys front back names is name there = absurd (none-some names is)
-each_within (Some own) None xs ys front back names is name there = absurd (none-some names is)
-each_within (Some own) (Some others) xs ys front back names is name there =
+each_named : (a b : Option (List NameId)) (P : NameId → Type 0)
+    → ((names : List NameId) → a ≡ Some names → (name : NameId) → Contains names name → P name)
+    → ((names : List NameId) → b ≡ Some names → (name : NameId) → Contains names name → P name)
+    → (names : List NameId) → of_each a b ≡ Some names → (name : NameId) → Contains names name → P name
+each_named None b P front back names is name there = absurd (none-some names is)
+each_named (Some own) None P front back names is name there = absurd (none-some names is)
+each_named (Some own) (Some others) P front back names is name there =
     ⊎_elim
-    (λ left. Contains-append_left xs ys name (front own refl name left))
-    (λ right. Contains-append_right xs ys name (back others refl name right))
+    (λ left. front own refl name left)
+    (λ right. back others refl name right)
     (Contains-append_cases own others name (subst (λ l. Contains l name) (sym (same_Some (own ++ others) names is)) there))
 
 triggers_within : (f : Formula) (names : List NameId) → triggers f ≡ Some names → (name : NameId) → Contains names name
     → Contains (names_in_formula f) name
 triggers_within (Atom place own terms) names is name there = subst (λ l. Contains l name) (sym (same_Some (own ∷ []) names is)) there
 triggers_within (And place g h) names is name there =
-    either_within (triggers g) (triggers h) (names_in_formula g) (names_in_formula h) (triggers_within g) (triggers_within h) names is name there
+    either_named (triggers g) (triggers h) (Contains (names_in_formula g ++ names_in_formula h))
+    (λ own same n among. Contains-append_left (names_in_formula g) (names_in_formula h) n (triggers_within g own same n among))
+    (λ own same n among. Contains-append_right (names_in_formula g) (names_in_formula h) n (triggers_within h own same n among))
+    names is name there
 triggers_within (Or place g h) names is name there =
-    each_within (triggers g) (triggers h) (names_in_formula g) (names_in_formula h) (triggers_within g) (triggers_within h) names is name there
+    each_named (triggers g) (triggers h) (Contains (names_in_formula g ++ names_in_formula h))
+    (λ own same n among. Contains-append_left (names_in_formula g) (names_in_formula h) n (triggers_within g own same n among))
+    (λ own same n among. Contains-append_right (names_in_formula g) (names_in_formula h) n (triggers_within h own same n among))
+    names is name there
 triggers_within (Exists place xs g) names is name there = triggers_within g names is name there
 triggers_within f names is name there = absurd (none-some names is)
 
@@ -88,40 +59,81 @@ test_named guards number test scope is name there =
     let g = guard_at guards number test scope is in
     looks_at guards number g.0 name g.1 (subst (λ f. Contains (names_in_formula f) name) (sym g.2) there)
 
-named_within : (guards : List PlacedGuard) (plan : Plan) (v : Valuation) (names : List NameId) → CanAskPlan (map placed_guard guards) plan v
-    → guard_triggers plan ≡ Some names → (name : NameId) → Contains names name → Contains (guard_names guards) name
-named_within guards (Guarded node xs guard test body) v names can are name there =
-    test_named guards guard test can.scope can.can.0.0.listed name (triggers_within test names are name there)
-named_within guards (CausePlan node place own terms) v names can are name there = absurd (none-some names are)
-named_within guards (SuppressPlan node place own terms) v names can are name there = absurd (none-some names are)
-named_within guards (Both node left right) v names can are name there = absurd (none-some names are)
-named_within guards (Either node left right) v names can are name there = absurd (none-some names are)
-named_within guards (TestOr node guard test body) v names can are name there = absurd (none-some names are)
-named_within guards (EventuallyPlan node place low high body) v names can are name there = absurd (none-some names are)
-named_within guards (AlwaysPlan node place low high body) v names can are name there = absurd (none-some names are)
-named_within guards (UntilPlan node place low high left right) v names can are name there = absurd (none-some names are)
-named_within guards (NextPlan node place high body) v names can are name there = absurd (none-some names are)
+module _ (guards : List PlacedGuard) where
+  abbrev IsNamed : Plan → NameId → Type 0
+  IsNamed plan name = Contains (guard_names guards) name ⊎ ((leaf : Plan) × Contains (nodes plan) leaf × Contains (suppressed_at leaf) name)
 
-still_away : (within names : List NameId) (ordered events : List Event) → HaveSameEvents within ordered events
-    → ((name : NameId) → Contains names name → Contains within name) → All (IsAway ordered) names → All (IsAway events) names
-still_away within names ordered events same inside away =
-    All-from_recursion (IsAway events) names (AllByRecursion-from_contains (IsAway events) names (λ name there event among is.
-    All-contains (IsAway ordered) names name away there event
-    ((same event (inside event.name (subst (Contains names) (sym is) there))).1 among) is))
+  inside : (part whole : Plan) (name : NameId) → ((leaf : Plan) → Contains (nodes part) leaf → Contains (nodes whole) leaf) → IsNamed part name
+      → IsNamed whole name
+  inside part whole name deeper named = ⊎_elim (λ looked. inl looked) (λ found. inr (found.0, deeper found.0 found.1, found.2)) named
 
--- so it is of the rule of a number, also where the events were in order before they changed in other names
-pub rule_sleeps : (trace : List Step) (plan : Plan) (v : Valuation) (guards : List PlacedGuard) (ordered events : List Event)
-    (at : Option (Option (List NameId))) → TriggersAreMet → CanAskPlan (map placed_guard guards) plan v → at ≡ Some (guard_triggers plan)
-    → (step_at trace (last_position trace)).events ≡ events → HaveSameEvents (guard_names guards) ordered events
-    → HasNoneOf at ordered → Missing trace plan v []
-rule_sleeps trace plan v guards ordered events at met can is same alike away =
-    by (guard_triggers plan) refl (subst (λ o. HasNoneOf o ordered) is away)
-  where
-    by : (own : Option (List NameId)) → guard_triggers plan ≡ own → HasNoneOf (Some own) ordered → Missing trace plan v []
-    by None are away = absurd away
-    by (Some names) are away =
-        sleeps trace plan v names met are (subst (λ l. All (IsAway l) names) (sym same)
-        (still_away (guard_names guards) names ordered events alike (named_within guards plan v names can are) away))
+  on_left : (whole left right : Plan) (name : NameId) → nodes whole ≡ whole ∷ nodes left ++ nodes right → IsNamed left name → IsNamed whole name
+  on_left whole left right name is named = inside left whole name (λ leaf there. subst (λ l. Contains l leaf) (sym is)
+      (later leaf whole (nodes left ++ nodes right) (Contains-append_left (nodes left) (nodes right) leaf there))) named
+
+  on_right : (whole left right : Plan) (name : NameId) → nodes whole ≡ whole ∷ nodes left ++ nodes right → IsNamed right name → IsNamed whole name
+  on_right whole left right name is named = inside right whole name (λ leaf there. subst (λ l. Contains l leaf) (sym is)
+      (later leaf whole (nodes left ++ nodes right) (Contains-append_right (nodes left) (nodes right) leaf there))) named
+
+  below : (whole body : Plan) (name : NameId) → nodes whole ≡ whole ∷ nodes body → IsNamed body name → IsNamed whole name
+  below whole body name is named = inside body whole name (λ leaf there. subst (λ l. Contains l leaf) (sym is) (later leaf whole (nodes body) there)) named
+
+  woken_within : (plan : Plan) (scope : List VarId) → CanAskIn (map placed_guard guards) plan scope → (names : List NameId)
+      → waking_names plan ≡ Some names → (name : NameId) → Contains names name → IsNamed plan name
+  woken_within (SuppressPlan node place own terms) scope can names is name there =
+      inr (SuppressPlan node place own terms, here (SuppressPlan node place own terms) [], subst (λ l. Contains l name) (sym (same_Some (own ∷ []) names is)) there)
+  woken_within (Both node left right) scope can names is name there =
+      each_named (waking_names left) (waking_names right) (IsNamed (Both node left right))
+      (λ own same n among. on_left (Both node left right) left right n refl (woken_within left scope can.1 own same n among))
+      (λ own same n among. on_right (Both node left right) left right n refl (woken_within right scope can.2 own same n among))
+      names is name there
+  woken_within (Either node left right) scope can names is name there =
+      each_named (waking_names left) (waking_names right) (IsNamed (Either node left right))
+      (λ own same n among. on_left (Either node left right) left right n refl (woken_within left scope can.1 own same n among))
+      (λ own same n among. on_right (Either node left right) left right n refl (woken_within right scope can.2 own same n among))
+      names is name there
+  woken_within (TestOr node guard test body) scope can names is name there =
+      below (TestOr node guard test body) body name refl (woken_within body scope can.1 names is name there)
+  woken_within (Guarded node xs guard test body) scope can names is name there =
+      either_named (triggers test) (waking_names body) (IsNamed (Guarded node xs guard test body))
+      (λ own same n among. inl (test_named guards guard test scope can.0.0.listed n (triggers_within test own same n among)))
+      (λ own same n among. below (Guarded node xs guard test body) body n refl (woken_within body (scope ++ xs) can.1 own same n among))
+      names is name there
+  woken_within (CausePlan node place own terms) scope can names is name there = absurd (none-some names is)
+  woken_within (EventuallyPlan node place low high body) scope can names is name there = absurd (none-some names is)
+  woken_within (AlwaysPlan node place low high body) scope can names is name there = absurd (none-some names is)
+  woken_within (UntilPlan node place low high left right) scope can names is name there = absurd (none-some names is)
+  woken_within (NextPlan node place high body) scope can names is name there = absurd (none-some names is)
+
+-- ---- rules that sleep
+
+pub none_met : (events : List Event) (own : Option (List NameId)) → HasNoneOf (Some own) events → AreMetBy events own → ⊥
+none_met events None away met = away
+none_met events (Some names) away (event, there, named) = All-contains (IsAway events) names event.name away named event there refl
+
+-- where the events were in order before they changed in names that no guard looks for, those of the names that wake a
+-- plan were there then
+module _ (plans : List Plan) (plan : Plan) (guards : List PlacedGuard) (ordered events : List Event) (among : Contains plans plan)
+    (alike : HaveSameEvents (guard_names guards) ordered events) (fewer : GainsNoSuppressed plans ordered events) where
+  met_before : (own : Option (List NameId)) → ((names : List NameId) → own ≡ Some names → (name : NameId) → Contains names name → IsNamed guards plan name)
+      → AreMetBy events own → AreMetBy ordered own
+  met_before None within met = tt
+  met_before (Some names) within (event, there, named) = (
+    event,
+    ⊎_elim
+        (λ looked. (alike event looked).1 there)
+        (λ found. fewer event (Contains-flat_map suppressed_below plans plan event.name among (Contains-flat_map suppressed_at (nodes plan) found.0 event.name found.1 found.2)) there)
+        (within names refl event.name named),
+    named,
+  )
+
+  -- so it is of the rule of a number
+  pub rule_sleeps : (trace : List Step) (v : Valuation) (at : Option (Option (List NameId))) → UnwokenMissesNothing
+      → CanAskPlan (map placed_guard guards) plan v → at ≡ Some (waking_names plan) → (step_at trace (last_position trace)).events ≡ events
+      → HasNoneOf at ordered → Missing trace plan v []
+  rule_sleeps trace v at unwoken can is same away =
+      unwoken (map placed_guard guards) trace plan v can (λ met. none_met ordered (waking_names plan) (subst (λ o. HasNoneOf o ordered) is away)
+      (met_before (waking_names plan) (woken_within guards plan can.scope can.can) (subst (λ l. AreMetBy l (waking_names plan)) same met)))
 
 -- ---- lists
 

@@ -1,11 +1,8 @@
 -- A name that no guard looks for, and that is acted on in the one way alone, is one that no plan looks for.
-use Rattle.choice_step.proofs.Vocabulary.{◌≡◌, ℕ, List, [], ◌∷◌, ◌++◌, Contains, map, subst}
-use Rattle.choice_step.proofs.Vocabulary.{AllByRecursion, flat_map, Contains-append_left, Contains-append_right}
-use Rattle.choice_step.proofs.Vocabulary.{AllByRecursion-append, here, later, NameId, VarId, Formula, names_in_formula}
-use Rattle.choice_step.proofs.Vocabulary.{guard_names, PlacedGuard, IsCaused, IsSuppressed, NothingClashes, nodes, Plan}
-use Rattle.choice_step.proofs.Vocabulary.{CausePlan, SuppressPlan, Both, Either, TestOr, Guarded, EventuallyPlan}
-use Rattle.choice_step.proofs.Vocabulary.{AlwaysPlan, UntilPlan, NextPlan, CanAskIn, IsGuardAt, CanAskRoots}
-use Rattle.choice_step.proofs.Vocabulary.{placed_guard, IsUnread, IsUnreadIn, LiteralKind, HasActionRole}
+use Rattle.choice_step.proofs.Vocabulary.{◌≡◌, ℕ, List, [], ◌∷◌, ◌++◌, Contains, map, subst, AllByRecursion, flat_map, Contains-append_left, Contains-append_right, AllByRecursion-append, here, later}
+use Rattle.choice_step.proofs.Vocabulary.{NameId, VarId, Formula, names_in_formula, guard_names, PlacedGuard, IsCaused, IsSuppressed, NothingClashes, nodes, Plan, CausePlan, SuppressPlan, Both}
+use Rattle.choice_step.proofs.Vocabulary.{Either, TestOr, Guarded, EventuallyPlan, AlwaysPlan, UntilPlan, NextPlan, CanAskIn, IsGuardAt, CanAskRoots, placed_guard, IsUnread, IsUnreadIn, LiteralKind}
+use Rattle.choice_step.proofs.Vocabulary.{HasActionRole}
 use Rattle.choice_step.proofs.LoopLemmas.{caused_by_leaf, suppressed_by_leaf}
 use Rattle.choice_step.proofs.RuleTriggerLemmas.{test_named}
 use Rattle.obligations.specs.declared.literals.LiteralKind.TheVariants as kind

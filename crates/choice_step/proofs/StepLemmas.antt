@@ -1,15 +1,9 @@
 -- A step that is looked at after a trace for which a past state stands.
-use Rattle.choice_step.proofs.Vocabulary.{IfNone, IfSome, option_map, ◌≡◌, ◌↔◌, ℕ, ◌<◌, ◌≤◌}
-use Rattle.choice_step.proofs.Vocabulary.{Bool, List, [], ◌∷◌, ◌++◌, Contains, Option, None, Some, length}
-use Rattle.choice_step.proofs.Vocabulary.{refl, sym, subst, ap, ◌∙◌, ⊎_elim, inl, inr, arith, length-append}
-use Rattle.choice_step.proofs.Vocabulary.{Event, NameId, Step, Value, NamesDecide, HaveSameNamedEvents, HaveSameEvents}
-use Rattle.choice_step.proofs.Vocabulary.{names_in_formula, Sat, HoldsNow, last_time, AreKnown, IsConstantOf, looks_at}
-use Rattle.choice_step.proofs.Vocabulary.{AreTablesAtStep, GuardsWillHold, Past, PastStands, PastTables, guard_formula}
-use Rattle.choice_step.proofs.Vocabulary.{formulas_of_guards, guard_names, tables_of, Plan, IsNowOf, last_position, Now}
-use Rattle.choice_step.proofs.Vocabulary.{Action, Instance, trace_with_step, Literal, IsFoundFrom, IsKnownBehind}
-use Rattle.choice_step.proofs.Vocabulary.{IsKnownFor, IsLiteralAt, IsLiteralBehind, IsWantedAt, IsWantedFrom}
-use Rattle.choice_step.proofs.Vocabulary.{IsPlainFound, WillFind, action_found, root_literals, rule_found}
-use Rattle.choice_step.proofs.Vocabulary.{WillHaveFound, Found}
+use Rattle.choice_step.proofs.Vocabulary.{IfNone, IfSome, option_map, ◌≡◌, ◌↔◌, ℕ, ◌<◌, ◌≤◌, Bool, List, [], ◌∷◌, ◌++◌, Contains, Option, None, Some, length, refl, sym, subst, ap, ◌∙◌, ⊎_elim, inl}
+use Rattle.choice_step.proofs.Vocabulary.{inr, arith, length-append, Event, NameId, Step, Value, NamesDecide, HaveSameNamedEvents, HaveSameEvents, names_in_formula, Sat, HoldsNow, last_time, AreKnown}
+use Rattle.choice_step.proofs.Vocabulary.{IsConstantOf, looks_at, AreTablesAtStep, GuardsWillHold, Past, PastStands, PastTables, guard_formula, formulas_of_guards, guard_names, tables_of, Plan}
+use Rattle.choice_step.proofs.Vocabulary.{IsNowOf, last_position, Now, Action, Instance, trace_with_step, Literal, IsFoundFrom, IsKnownBehind, IsKnownFor, IsLiteralAt, IsLiteralBehind, IsWantedAt}
+use Rattle.choice_step.proofs.Vocabulary.{IsWantedFrom, IsPlainFound, WillFind, action_found, root_literals, rule_found, WillHaveFound, Found}
 use Rattle.choice_step.proofs.LoopActionLemmas.{at_each}
 use Rattle.choice_step.proofs.UniquenessLemmas.{last_step}
 

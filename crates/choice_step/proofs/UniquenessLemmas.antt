@@ -1,17 +1,10 @@
 -- The rules leave no choice: what is done at a step, and what is emitted.
-use Rattle.choice_step.proofs.Vocabulary.{◌≡◌, ℕ, ◌≤◌, Bool, List, [], ◌∷◌, ◌++◌, Option, None}
-use Rattle.choice_step.proofs.Vocabulary.{Some, length, Contains, refl, sym, subst, ap, ◌∙◌, ⊎_elim, arith}
-use Rattle.choice_step.proofs.Vocabulary.{length-append, slice_index_or, AllByRecursion, All-contains}
-use Rattle.choice_step.proofs.Vocabulary.{Contains-append_right, no_step, step_at, here, HasNoRepeats-push}
-use Rattle.choice_step.proofs.Vocabulary.{HasNoRepeats, no_values, Event, Step, nil_not_cons, without_middle, Record}
-use Rattle.choice_step.proofs.Vocabulary.{StepRecord, Tick, time_of, StepKind, System, Inserted, Plan, time_now}
-use Rattle.choice_step.proofs.Vocabulary.{last_position, MissingIsOne, MissingOfIsOne, PendIsOne, HasDeadline, Instance}
-use Rattle.choice_step.proofs.Vocabulary.{Literal, LiteralKind, Cause, Suppress, Applies, ActedStep, is_inserted}
-use Rattle.choice_step.proofs.Vocabulary.{steps_of, StepGoesOut, Follows, GoesOut, InsertsSteps, IsLeastDeadline}
-use Rattle.choice_step.proofs.Vocabulary.{Candidate, Decides, IsFirstMissing, CandidateMisses, MissesNothing, Root}
-use Rattle.choice_step.proofs.Vocabulary.{Waiting, action_for, all_asked, is_forced, trace_with_step, AreDistinct}
-use Rattle.choice_step.proofs.Vocabulary.{DecidedIsDistinct, DecidedMissesNothing, DecidesIsOne, DrainIsOne}
-use Rattle.choice_step.proofs.Vocabulary.{FollowsIsOne, Action}
+use Rattle.choice_step.proofs.Vocabulary.{◌≡◌, ℕ, ◌≤◌, Bool, List, [], ◌∷◌, ◌++◌, Option, None, Some, length, Contains, refl, sym, subst, ap, ◌∙◌, ⊎_elim, arith, length-append, slice_index_or}
+use Rattle.choice_step.proofs.Vocabulary.{AllByRecursion, All-contains, Contains-append_right, no_step, step_at, here, HasNoRepeats-push, HasNoRepeats, no_values, Event, Step, nil_not_cons}
+use Rattle.choice_step.proofs.Vocabulary.{without_middle, Record, StepRecord, Tick, time_of, StepKind, System, Inserted, Plan, time_now, last_position, MissingIsOne, MissingOfIsOne, PendIsOne}
+use Rattle.choice_step.proofs.Vocabulary.{HasDeadline, Instance, Literal, LiteralKind, Cause, Suppress, Applies, ActedStep, is_inserted, steps_of, StepGoesOut, Follows, GoesOut, InsertsSteps}
+use Rattle.choice_step.proofs.Vocabulary.{IsLeastDeadline, Candidate, Decides, IsFirstMissing, CandidateMisses, MissesNothing, Root, Waiting, action_for, all_asked, is_forced, trace_with_step}
+use Rattle.choice_step.proofs.Vocabulary.{AreDistinct, DecidedIsDistinct, DecidedMissesNothing, DecidesIsOne, DrainIsOne, FollowsIsOne, Action}
 use Rattle.choice_step.proofs.WantedActionLemmas.{IsWanted, WantedAs, missing_are_wanted, missing_of_are_wanted}
 
 -- ---- lists

@@ -1,15 +1,12 @@
 -- The words in which the proofs of this crate speak: those of std, of the crates below and of its own specs.
-pub use Rattle.std.proofs.Common.{All, Bool, Contains, IfOk, IsTrue, List, None, Option, Some, [], ap, append-nil}
-pub use Rattle.std.proofs.Common.{append_assoc, arith, cond, drop, false, get_or, inl, inr, length, length-append, lit<}
-pub use Rattle.std.proofs.Common.{lit≤, map, refl, reverse, rules, slice_index_or, subst, suc, sym, take, true}
-pub use Rattle.std.proofs.Common.{true≢false, zero, ℕ, ⊎_elim, ◌&&◌, ◌++◌, ◌+◌, ◌-◌, ◌<◌}
-pub use Rattle.std.proofs.Common.{◌==◌, ◌↔◌, ◌∙◌, ◌∷◌, ◌≡◌, ◌≤◌, ◌⊎◌}
+pub use Rattle.std.proofs.Common.{All, Bool, Contains, IfOk, IsTrue, List, None, Option, Some, [], ap, append-nil, append_assoc, arith, cond, drop, false, get_or, inl, inr, length, length-append}
+pub use Rattle.std.proofs.Common.{lit<, lit≤, map, refl, reverse, rules, slice_index_or, subst, suc, sym, take, true, true≢false, zero, ℕ, ⊎_elim, ◌&&◌, ◌++◌, ◌+◌, ◌-◌, ◌<◌, ◌==◌, ◌↔◌, ◌∙◌, ◌∷◌, ◌≡◌}
+pub use Rattle.std.proofs.Common.{◌≤◌, ◌⊎◌}
 pub use Rattle.std.proofs.lemmas.Bool.{and_right, cases_lt, eqb-false, eqb-true, false≢true, ne_eqb}
 pub use Rattle.std.proofs.lemmas.Fn.{always_returns_same}
 pub use Rattle.std.proofs.lemmas.List.{drop_all, length-map, map-append, take_all, take_more, take_rest}
-pub use Rattle.std.proofs.lemmas.List.Elements.{All-contains, All-from_recursion, All-more, All-nil, All-weaker}
-pub use Rattle.std.proofs.lemmas.List.Elements.{Contains-append_cases, Contains-append_left, Contains-append_right}
-pub use Rattle.std.proofs.lemmas.List.Elements.{Contains-push, Contains-push_cases}
+pub use Rattle.std.proofs.lemmas.List.Elements.{All-contains, All-from_recursion, All-more, All-nil, All-weaker, Contains-append_cases, Contains-append_left, Contains-append_right, Contains-push}
+pub use Rattle.std.proofs.lemmas.List.Elements.{Contains-push_cases}
 pub use Rattle.std.proofs.lemmas.List.Sorted.{Contains-permutation, IsPartitionPoint-from_clause}
 pub use Rattle.std.proofs.lemmas.Option.{none-some, same_Some}
 pub use Rattle.std.proofs.lemmas.Result.{IfOk-weaker, on_ok_weaker}
@@ -26,47 +23,30 @@ pub use Rattle.choice_step.specs.declared.first_missing.Found.{Found}
 pub use Rattle.choice_step.specs.declared.first_missing.Place.{Place}
 pub use Rattle.choice_step.specs.declared.situation.Situation.{Situation}
 pub use Rattle.choice_step.specs.declared.woken_rules.Woken.{Woken}
-pub use Rattle.choice_step.specs.machine.ActionChains.{Acts, ActsFrom, AreSpared, AreSparedBehind, HasActionRole}
-pub use Rattle.choice_step.specs.machine.ActionChains.{HasNoChoices, WillDecide}
+pub use Rattle.choice_step.specs.machine.ActionChains.{Acts, ActsFrom, AreSpared, AreSparedBehind, HasActionRole, HasNoChoices, WillDecide}
 pub use Rattle.choice_step.specs.machine.AskedLeaves.{AreAskedActions, IsAskedAction, IsAskedLeaf, all_events}
-pub use Rattle.choice_step.specs.machine.Cases.{always_to_10, due_at_5, empty_at_0, event_r, for_due, for_leaf}
-pub use Rattle.choice_step.specs.machine.Cases.{for_root, for_second_at, is_number, next_due_at_15, p_and_r, p_at_5}
-pub use Rattle.choice_step.specs.machine.Cases.{p_by_5, p_by_5_and_q_by_3, p_is_there, p_of_1_is_there, p_up_to_5}
-pub use Rattle.choice_step.specs.machine.Cases.{p_where_no_q, p_where_q, p_with_next, q_always, q_at_15, q_at_3, q_at_7}
-pub use Rattle.choice_step.specs.machine.Cases.{q_by_5, q_is_not, q_is_there, r_is_there, second_due_at_3}
-pub use Rattle.choice_step.specs.machine.Cases.{second_due_at_5, served_at_5}
-pub use Rattle.choice_step.specs.machine.FirstActions.{IsActionFor, IsPlainFound, WillFind, action_by, action_found}
-pub use Rattle.choice_step.specs.machine.FirstActions.{first_literal, literals_by, plain_by, root_literals, rule_by}
-pub use Rattle.choice_step.specs.machine.FirstActions.{rule_found}
+pub use Rattle.choice_step.specs.machine.Cases.{always_to_10, due_at_5, empty_at_0, event_r, for_due, for_leaf, for_root, for_second_at, is_number, next_due_at_15, p_and_r, p_at_5, p_by_5}
+pub use Rattle.choice_step.specs.machine.Cases.{p_by_5_and_q_by_3, p_is_there, p_of_1_is_there, p_up_to_5, p_where_no_q, p_where_q, p_with_next, q_always, q_at_15, q_at_3, q_at_7, q_by_5, q_is_not}
+pub use Rattle.choice_step.specs.machine.Cases.{q_is_there, r_is_there, second_due_at_3, second_due_at_5, served_at_5}
+pub use Rattle.choice_step.specs.machine.FirstActions.{IsActionFor, IsPlainFound, WillFind, action_by, action_found, first_literal, literals_by, plain_by, root_literals, rule_by, rule_found}
 pub use Rattle.choice_step.specs.machine.FittingEvents.{CausesFit, EventsFit, KeepFitting, TraceEventsFit}
 pub use Rattle.choice_step.specs.machine.FittingLaws.{DecidedFits, DrainFits, FollowedFits}
 pub use Rattle.choice_step.specs.machine.JustificationLaws.{DecidedAreJustified, LeastDeadlineIsNeeded, WillBeJustified}
-pub use Rattle.choice_step.specs.machine.Laws.{ActionsAreLawful, AreDistinct, AsleepBeginsNothing, AsleepDecidesNothing}
-pub use Rattle.choice_step.specs.machine.Laws.{CausesAlone, DecidedIsDistinct, DecidedMissesNothing, DecidesIsOne}
-pub use Rattle.choice_step.specs.machine.Laws.{DrainIsOne, EventsAreActedOnOnce, FollowsIsOne, IsReach, SomeDecision}
-pub use Rattle.choice_step.specs.machine.Laws.{SomeFollows, SomeInserts}
-pub use Rattle.choice_step.specs.machine.LoopActions.{ActsFor, ActsInTurn, ActsOn, AllCanBeAsked, GoesFrom, IsFoundFrom}
-pub use Rattle.choice_step.specs.machine.LoopActions.{LeavesNothing, StaysMet}
+pub use Rattle.choice_step.specs.machine.Laws.{ActionsAreLawful, AreDistinct, AsleepBeginsNothing, AsleepDecidesNothing, CausesAlone, DecidedIsDistinct, DecidedMissesNothing, DecidesIsOne, DrainIsOne}
+pub use Rattle.choice_step.specs.machine.Laws.{EventsAreActedOnOnce, FollowsIsOne, IsReach, SomeDecision, SomeFollows, SomeInserts}
+pub use Rattle.choice_step.specs.machine.LoopActions.{ActsFor, ActsInTurn, ActsOn, AllCanBeAsked, GoesFrom, IsFoundFrom, LeavesNothing, StaysMet}
 pub use Rattle.choice_step.specs.machine.MetPlaces.{CoversMet, NothingBefore, RootsAreMet, WillBeMetBefore}
 pub use Rattle.choice_step.specs.machine.RootLiterals.{IsLeftAt, RootMisses, WasFound, WillBeLeft, WillHaveFound}
-pub use Rattle.choice_step.specs.machine.RuleTriggers.{AllSleep, AreAllIn, HasNoneOf, IsAway, woken_by, woken_number}
-pub use Rattle.choice_step.specs.machine.Situations.{CanDecideSituation, IsFoundInSituation, IsMetBefore, NoneIsWoken}
-pub use Rattle.choice_step.specs.machine.Situations.{SituationFinds, SituationLeads, situation_plans}
-pub use Rattle.choice_step.specs.machine.WantedActions.{AreLiteralsBehind, IsKnownBehind, IsKnownFor, IsLiteralAt}
-pub use Rattle.choice_step.specs.machine.WantedActions.{IsLiteralBehind, IsWantedAt, IsWantedFrom}
-pub use Rattle.choice_step.specs.meaning.ActedSteps.{ActedStep, AllAreJustified, Applies, AreJustified, StepIsJustified}
-pub use Rattle.choice_step.specs.meaning.ActedSteps.{change_by, change_of}
-pub use Rattle.choice_step.specs.meaning.Choice.{Candidate, CandidateMisses, Decides, IsFirstMissing, MissesNothing}
-pub use Rattle.choice_step.specs.meaning.Choice.{Root, Waiting, action_at, action_at_root, action_for, all_asked}
-pub use Rattle.choice_step.specs.meaning.Choice.{is_forced, roots_from, trace_with_step}
-pub use Rattle.choice_step.specs.meaning.Follows.{Follows, GoesOut, InsertsSteps, IsLeastDeadline, IsPassed}
-pub use Rattle.choice_step.specs.meaning.Follows.{NoneIsPassed, StepGoesOut, is_inserted, steps_of}
-pub use Rattle.enf_data.proofs.ListFacts.{Contains-flat_map, Contains-insert, drop_at_item, from_flat_map, nil_not_cons}
-pub use Rattle.enf_data.proofs.ListFacts.{slice_get_at}
-pub use Rattle.enf_data.proofs.Lists.{AllByRecursion-append, AllByRecursion-contains, AllByRecursion-find}
-pub use Rattle.enf_data.proofs.Lists.{AllByRecursion-from_contains, AllByRecursion-weaker, Contains-append}
-pub use Rattle.enf_data.proofs.Lists.{Contains-map, HasNoRepeats-middle, HasNoRepeats-push, first_or_later, here, later}
-pub use Rattle.enf_data.proofs.Lists.{list_any-Decides, none_in_nil, there_from_get}
+pub use Rattle.choice_step.specs.machine.RuleTriggers.{AllSleep, AreAllIn, GainsNoSuppressed, HasNoneOf, IsAway, woken_by, woken_number}
+pub use Rattle.choice_step.specs.machine.Situations.{CanDecideSituation, IsFoundInSituation, IsMetBefore, NoneIsWoken, SituationFinds, SituationLeads, situation_plans}
+pub use Rattle.choice_step.specs.machine.WantedActions.{AreLiteralsBehind, IsKnownBehind, IsKnownFor, IsLiteralAt, IsLiteralBehind, IsWantedAt, IsWantedFrom}
+pub use Rattle.choice_step.specs.meaning.ActedSteps.{ActedStep, AllAreJustified, Applies, AreJustified, StepIsJustified, change_by, change_of}
+pub use Rattle.choice_step.specs.meaning.Choice.{Candidate, CandidateMisses, Decides, IsFirstMissing, MissesNothing, Root, Waiting, action_at, action_at_root, action_for, all_asked, is_forced}
+pub use Rattle.choice_step.specs.meaning.Choice.{roots_from, trace_with_step}
+pub use Rattle.choice_step.specs.meaning.Follows.{Follows, GoesOut, InsertsSteps, IsLeastDeadline, IsPassed, NoneIsPassed, StepGoesOut, is_inserted, steps_of}
+pub use Rattle.enf_data.proofs.ListFacts.{Contains-flat_map, Contains-insert, drop_at_item, from_flat_map, nil_not_cons, slice_get_at}
+pub use Rattle.enf_data.proofs.Lists.{AllByRecursion-append, AllByRecursion-contains, AllByRecursion-find, AllByRecursion-from_contains, AllByRecursion-weaker, Contains-append, Contains-map}
+pub use Rattle.enf_data.proofs.Lists.{HasNoRepeats-middle, HasNoRepeats-push, first_or_later, here, later, list_any-Decides, none_in_nil, there_from_get}
 pub use Rattle.enf_data.proofs.SortedSearch.{below_first, tied_between, up_to_last}
 pub use Rattle.enf_data.proofs.TableKeys.{without_middle}
 pub use Rattle.enf_data.proofs.ValuationLaws.{value_at-insert}
@@ -82,15 +62,13 @@ pub use Rattle.enf_data.specs.declared.values.Value.TheVariants.{Text}
 pub use Rattle.enf_data.specs.machine.ValueTests.{value_eq-Decides}
 pub use Rattle.enf_data.specs.meaning.Data.{IsTrace, no_step, step_at}
 pub use Rattle.enf_data.specs.meaning.Membership.{HasNoRepeats, TakesOut}
-pub use Rattle.enf_data.specs.meaning.Valuations.{Valuation, bindings, no_values, onto_values, value_at}
-pub use Rattle.enf_data.specs.meaning.Valuations.{values_of_terms, variable_cmp, with_values}
+pub use Rattle.enf_data.specs.meaning.Valuations.{Valuation, bindings, no_values, onto_values, value_at, values_of_terms, variable_cmp, with_values}
 pub use Rattle.enf_data.specs.meaning.Values.{value_eq}
 pub use Rattle.enf_formula.specs.machine.Agreement.{HaveSameEvents, HaveSameNamedEvents, names_in_formula}
 pub use Rattle.enf_formula.specs.machine.Cases.{event_p, event_q, name_q, variable_x}
 pub use Rattle.enf_formula.specs.machine.Laws.{NamesDecide}
-pub use Rattle.enf_formula.specs.meaning.Satisfaction.{Always, And, AtMost, Atom, Classically, Equal, Eventually}
-pub use Rattle.enf_formula.specs.meaning.Satisfaction.{Exists, False, Forall, Formula, Historically, Implies, Less}
-pub use Rattle.enf_formula.specs.meaning.Satisfaction.{Next, Not, Once, Or, Prev, Sat, Since, True, Until}
+pub use Rattle.enf_formula.specs.meaning.Satisfaction.{Always, And, AtMost, Atom, Classically, Equal, Eventually, Exists, False, Forall, Formula, Historically, Implies, Less, Next, Not, Once, Or}
+pub use Rattle.enf_formula.specs.meaning.Satisfaction.{Prev, Sat, Since, True, Until}
 pub use Rattle.monitorable_guard.specs.machine.EventOrder.{shown_events}
 pub use Rattle.monitorable_guard.specs.machine.PresentMeaning.{HoldsNow}
 pub use Rattle.monitorable_guard.specs.machine.ValueSources.{IsArgument, IsFormulaConstant}
@@ -101,40 +79,35 @@ pub use Rattle.obligations.specs.declared.literals.Literal.{Literal}
 pub use Rattle.obligations.specs.declared.literals.LiteralKind.{LiteralKind}
 pub use Rattle.obligations.specs.declared.literals.LiteralKind.TheVariants.{Cause, Suppress}
 pub use Rattle.obligations.specs.declared.present_step.Now.{Now}
-pub use Rattle.obligations.specs.machine.AskablePlans.{CanAskIn, CanAskOf, CanAskPlan, CanAskRoot, CanAskRoots}
-pub use Rattle.obligations.specs.machine.AskablePlans.{IsGuardAt}
+pub use Rattle.obligations.specs.machine.AskablePlans.{CanAskIn, CanAskOf, CanAskPlan, CanAskRoot, CanAskRoots, IsGuardAt}
 pub use Rattle.obligations.specs.machine.AskingLaws.{PendCanBeAsked, WellFormedCanBeAsked, WellFormedStand}
 pub use Rattle.obligations.specs.machine.Cases.{each_q, p_of_1, q_of_1}
 pub use Rattle.obligations.specs.machine.ExistenceLaws.{MissingExists, MissingOfExists, PendExists}
 pub use Rattle.obligations.specs.machine.FirstMissing.{FirstMissing, FirstMissingOf, FirstOf}
 pub use Rattle.obligations.specs.machine.Leaves.{ChangesEvents, IsBound, IsLeaf, terms_of}
-pub use Rattle.obligations.specs.machine.LossLaws.{DeadlineIsNeeded, MissedIsServed, MissedIsServedPending}
-pub use Rattle.obligations.specs.machine.LossLaws.{PendingIsEarlier, PendingIsOwed, SomethingMissedIsLost}
-pub use Rattle.obligations.specs.machine.LossLaws.{SomethingMissedIsLostPending, time_behind}
+pub use Rattle.obligations.specs.machine.LossLaws.{DeadlineIsNeeded, MissedIsServed, MissedIsServedPending, PendingIsEarlier, PendingIsOwed, SomethingMissedIsLost, SomethingMissedIsLostPending}
+pub use Rattle.obligations.specs.machine.LossLaws.{time_behind}
 pub use Rattle.obligations.specs.machine.PlanClasses.{IsPlain, PlansStand}
 pub use Rattle.obligations.specs.machine.PresentStep.{IsNowOf}
 pub use Rattle.obligations.specs.machine.RightValues.{AreRight, IsRightLiteral}
+pub use Rattle.obligations.specs.machine.TriggerLaws.{UnwokenBeginsNothing, UnwokenMissesNothing}
+pub use Rattle.obligations.specs.machine.TriggeredNodes.{AreMetBy}
 pub use Rattle.obligations.specs.machine.UniquenessLaws.{MissingIsOne, MissingOfIsOne, PendIsOne}
 pub use Rattle.obligations.specs.machine.UnreadLaws.{UnreadInstanceStaysMet, UnreadLeavesRest, UnreadStaysMet}
-pub use Rattle.obligations.specs.machine.UnreadNames.{AreThoseWith, DiffersIn, HaveMore, IsStillWanted, IsUnread}
-pub use Rattle.obligations.specs.machine.UnreadNames.{IsUnreadIn}
+pub use Rattle.obligations.specs.machine.UnreadNames.{AreThoseWith, DiffersIn, HaveMore, IsStillWanted, IsUnread, IsUnreadIn}
 pub use Rattle.obligations.specs.machine.ValueLaws.{MissedAreOwn, MissedIsRight, MissedOfAreOwn, MissedOfIsRight}
 pub use Rattle.obligations.specs.machine.ValueSources.{IsKnownOn, IsOwnLiteral}
 pub use Rattle.obligations.specs.machine.WantedLiterals.{IsKnownAt, IsWanted, IsWantedOf}
-pub use Rattle.obligations.specs.meaning.Obligations.{AreGuardRows, Begun, Gathers, IfElse, IsAbsent, IsJustified}
-pub use Rattle.obligations.specs.meaning.Obligations.{IsPresent, LiteralUnless, MissesAlways, MissesEither, MissesUntil}
-pub use Rattle.obligations.specs.meaning.Obligations.{Missing, OfEvent, cause_literal, floor, last_position}
-pub use Rattle.obligations.specs.meaning.Obligations.{suppress_literal, time_now}
-pub use Rattle.obligations.specs.meaning.Pending.{AtNode, BegunByRoots, HasDeadline, IsClean, MissesAt, MissingOf}
-pub use Rattle.obligations.specs.meaning.Pending.{NoneIsOver, Pend, node_of}
+pub use Rattle.obligations.specs.meaning.Obligations.{AreGuardRows, Begun, Gathers, IfElse, IsAbsent, IsJustified, IsPresent, LiteralUnless, MissesAlways, MissesEither, MissesUntil, Missing, OfEvent}
+pub use Rattle.obligations.specs.meaning.Obligations.{cause_literal, floor, last_position, suppress_literal, time_now}
+pub use Rattle.obligations.specs.meaning.Pending.{AtNode, BegunByRoots, HasDeadline, IsClean, MissesAt, MissingOf, NoneIsOver, Pend, node_of}
 pub use Rattle.past_state.proofs.GuardLaws.{looks_at}
 pub use Rattle.past_state.specs.declared.guards.PlacedGuard.{PlacedGuard}
 pub use Rattle.past_state.specs.declared.kept_rows.KeptRow.{KeptRow}
 pub use Rattle.past_state.specs.declared.memories.Memory.{Memory}
 pub use Rattle.past_state.specs.declared.operators.OperatorState.{OperatorState}
 pub use Rattle.past_state.specs.machine.GuardPlaces.{guards_at, placed_guard}
-pub use Rattle.past_state.specs.machine.Past.{AreTablesAtStep, GuardsWillHold, IsGuard, Past, PastStands, PastTables}
-pub use Rattle.past_state.specs.machine.Past.{formulas_of_guards, guard_formula, guard_names, tables_of}
+pub use Rattle.past_state.specs.machine.Past.{AreTablesAtStep, GuardsWillHold, IsGuard, Past, PastStands, PastTables, formulas_of_guards, guard_formula, guard_names, tables_of}
 pub use Rattle.past_state.specs.machine.StoredRows.{StoresFor}
 pub use Rattle.past_state.specs.machine.ValueSources.{AreKnown, IsConstantOf, IsKeptValue}
 pub use Rattle.past_state.specs.meaning.KeptRows.{pair_of}
@@ -142,15 +115,14 @@ pub use Rattle.pending.specs.machine.Laws.{SleepersMissNothing}
 pub use Rattle.pending.specs.machine.PendingLists.{SleepsAt}
 pub use Rattle.plan_terms.proofs.NodeLemmas.{first_node, plan_at}
 pub use Rattle.plan_terms.proofs.ScopeLaws.{AtEach-below, AtEach-root}
-pub use Rattle.plan_terms.specs.machine.Laws.{LostStaysLost, OwedStaysOwed, TriggersAreMet}
+pub use Rattle.plan_terms.specs.machine.Laws.{LostStaysLost, OwedStaysOwed}
+pub use Rattle.plan_terms.specs.machine.WakingNames.{waking_names}
 pub use Rattle.plan_terms.specs.machine.NamedNodes.{IsNodeByNumber}
 pub use Rattle.plan_terms.specs.machine.StoredPlans.{plan_of}
 pub use Rattle.plan_terms.specs.meaning.Owed.{IsLost}
-pub use Rattle.plan_terms.specs.meaning.Plans.{AlwaysPlan, Both, CausePlan, Either, EventuallyPlan, Guarded, IsCaused}
-pub use Rattle.plan_terms.specs.meaning.Plans.{IsSuppressed, NextPlan, NothingClashes, Plan, SuppressPlan, TestOr}
-pub use Rattle.plan_terms.specs.meaning.Plans.{UntilPlan, caused_at, caused_below, formula_for, guard_triggers}
-pub use Rattle.plan_terms.specs.meaning.Plans.{has_deadline, has_number, is_future, node_in, node_number, nodes}
-pub use Rattle.plan_terms.specs.meaning.Plans.{nodes_of, of_each, suppressed_at, suppressed_below, triggers}
+pub use Rattle.plan_terms.specs.meaning.Plans.{AlwaysPlan, Both, CausePlan, Either, EventuallyPlan, Guarded, IsCaused, IsSuppressed, NextPlan, NothingClashes, Plan, SuppressPlan, TestOr, UntilPlan}
+pub use Rattle.plan_terms.specs.meaning.Plans.{caused_at, caused_below, formula_for, has_deadline, has_number, is_future, node_in, node_number, nodes, nodes_of, of_each, suppressed_at}
+pub use Rattle.plan_terms.specs.meaning.Plans.{suppressed_below, triggers}
 pub use Rattle.plan_terms.specs.machine.WellFormed.{AtEach, AreWellFormed, EndsInTime, IsWellFormed}
 pub use Rattle.plan_terms.specs.meaning.Scopes.{scoped_nodes}
 pub use Rattle.sleepers.specs.machine.Entries.{AllButThose, shown}
@@ -158,7 +130,6 @@ pub use Rattle.sleepers.specs.machine.Patterns.{HasNone}
 pub use Rattle.trace_meaning.specs.declared.kinds.StepKind.{StepKind}
 pub use Rattle.trace_meaning.specs.declared.kinds.StepKind.TheVariants.{Inserted, System}
 pub use Rattle.trace_meaning.specs.machine.Laws.{TraceGrows}
-pub use Rattle.trace_meaning.specs.meaning.Traces.{Changes, IsCause, Record, StepRecord, Tick, event_of, last_time}
-pub use Rattle.trace_meaning.specs.meaning.Traces.{recorded, time_of}
+pub use Rattle.trace_meaning.specs.meaning.Traces.{Changes, IsCause, Record, StepRecord, Tick, event_of, last_time, recorded, time_of}
 pub use Rattle.windows.specs.declared.kept_pairs.KeptPair.{KeptPair}
 pub use Rattle.windows.specs.machine.StoredPairs.{pairs_of_last}

@@ -1,12 +1,8 @@
 -- Each literal that is missed is wanted: an event to be caused is absent, and one to be suppressed is not.
-use Rattle.choice_step.proofs.Vocabulary.{◌≡◌, ℕ, zero, suc, Bool, true, false, List, [], ◌∷◌, Option}
-use Rattle.choice_step.proofs.Vocabulary.{None, Some, sym, subst, ⊎_elim, AllByRecursion, AllByRecursion-append}
-use Rattle.choice_step.proofs.Vocabulary.{Valuation, values_of_terms, with_values, Event, NameId, Step, Value, Plan}
-use Rattle.choice_step.proofs.Vocabulary.{CausePlan, SuppressPlan, Both, Either, TestOr, Guarded, EventuallyPlan}
-use Rattle.choice_step.proofs.Vocabulary.{AlwaysPlan, UntilPlan, NextPlan, IfElse, IsAbsent, IsPresent, LiteralUnless}
-use Rattle.choice_step.proofs.Vocabulary.{MissesAlways, MissesEither, MissesUntil, Missing, OfEvent, cause_literal}
-use Rattle.choice_step.proofs.Vocabulary.{suppress_literal, Gathers, AtNode, MissesAt, MissingOf, node_of, Instance}
-use Rattle.choice_step.proofs.Vocabulary.{Literal, LiteralKind}
+use Rattle.choice_step.proofs.Vocabulary.{◌≡◌, ℕ, zero, suc, Bool, true, false, List, [], ◌∷◌, Option, None, Some, sym, subst, ⊎_elim, AllByRecursion, AllByRecursion-append, Valuation}
+use Rattle.choice_step.proofs.Vocabulary.{values_of_terms, with_values, Event, NameId, Step, Value, Plan, CausePlan, SuppressPlan, Both, Either, TestOr, Guarded, EventuallyPlan, AlwaysPlan, UntilPlan}
+use Rattle.choice_step.proofs.Vocabulary.{NextPlan, IfElse, IsAbsent, IsPresent, LiteralUnless, MissesAlways, MissesEither, MissesUntil, Missing, OfEvent, cause_literal, suppress_literal, Gathers}
+use Rattle.choice_step.proofs.Vocabulary.{AtNode, MissesAt, MissingOf, node_of, Instance, Literal, LiteralKind}
 use Rattle.obligations.specs.declared.literals.LiteralKind.TheVariants as kind
 
 module _ (trace : List Step) where

@@ -1,13 +1,8 @@
 -- Rules that a step does not wake: by the index of the names that wake them, and what they miss.
-use Rattle.choice_step.proofs.Vocabulary.{◌≡◌, ◌∙◌, ℕ, zero, suc, ◌+◌, ◌-◌, ◌<◌, ◌≤◌}
-use Rattle.choice_step.proofs.Vocabulary.{Bool, true, List, [], ◌∷◌, Option, None, Some, Contains, length, map}
-use Rattle.choice_step.proofs.Vocabulary.{get_or, refl, sym, subst, ap, ⊎_elim, arith, is_some, slice_get, option_map}
-use Rattle.choice_step.proofs.Vocabulary.{cases_lt, false≢true, All-from_recursion, none-some, step_at}
-use Rattle.choice_step.proofs.Vocabulary.{AllByRecursion-contains, AllByRecursion-from_contains, there_from_get}
-use Rattle.choice_step.proofs.Vocabulary.{no_values, Event, NameId, Step, slice_get_at, HaveSameEvents, guard_names}
-use Rattle.choice_step.proofs.Vocabulary.{PlacedGuard, Plan, guard_triggers, TriggersAreMet, placed_guard}
-use Rattle.choice_step.proofs.Vocabulary.{last_position, CanAskRoot, CanAskRoots, RootsAreMet, AreAllIn, HasNoneOf}
-use Rattle.choice_step.proofs.Vocabulary.{IsAway, woken_by, Woken}
+use Rattle.choice_step.proofs.Vocabulary.{◌≡◌, ◌∙◌, ℕ, zero, suc, ◌+◌, ◌-◌, ◌<◌, ◌≤◌, Bool, true, List, [], ◌∷◌, Option, None, Some, Contains, length, map, get_or, refl, sym, subst, ap, ⊎_elim, arith}
+use Rattle.choice_step.proofs.Vocabulary.{is_some, slice_get, option_map, cases_lt, false≢true, All-from_recursion, none-some, step_at, AllByRecursion-contains, AllByRecursion-from_contains}
+use Rattle.choice_step.proofs.Vocabulary.{there_from_get, no_values, Event, NameId, Step, slice_get_at, HaveSameEvents, guard_names, PlacedGuard, Plan, waking_names, UnwokenMissesNothing}
+use Rattle.choice_step.proofs.Vocabulary.{placed_guard, last_position, CanAskRoot, CanAskRoots, RootsAreMet, AreAllIn, GainsNoSuppressed, HasNoneOf, IsAway, woken_by, Woken}
 use Rattle.choice_step.proofs.FirstActionLemmas.{one_more_root}
 use Rattle.choice_step.proofs.RuleTriggerLemmas.{get_map, rule_sleeps, some_at}
 
@@ -34,15 +29,15 @@ not_none f None some none = false≢true some
 not_none f (Some x) some none = none-some (f x) (sym none)
 
 -- the rules from one on sleep that are below each that the index has for the events
-pub none_of : (triggers : List (Option (List NameId))) (always : List ℕ) (by_name : List Woken) (events : List Event)
-    (from first r : ℕ) → AreAllIn triggers always by_name → from ≤ r → r < first → r < length triggers
+pub none_of : (wakes : List (Option (List NameId))) (always : List ℕ) (by_name : List Woken) (events : List Event)
+    (from first r : ℕ) → AreAllIn wakes always by_name → from ≤ r → r < first → r < length wakes
     → ((rule : ℕ) → Contains always rule → from ≤ rule → first ≤ rule)
     → ((event : Event) → Contains events event → (entry : Woken) → Contains by_name entry → entry.name ≡ event.name
-    → from ≤ entry.rule → first ≤ entry.rule) → HasNoneOf (slice_get triggers r) events
-none_of triggers always by_name events from first r all behind below within unnamed named = by (slice_get triggers r) refl
+    → from ≤ entry.rule → first ≤ entry.rule) → HasNoneOf (slice_get wakes r) events
+none_of wakes always by_name events from first r all behind below within unnamed named = by (slice_get wakes r) refl
   where
-    by : (at : Option (Option (List NameId))) → slice_get triggers r ≡ at → HasNoneOf at events
-    by None is = absurd (none_at triggers r within is)
+    by : (at : Option (Option (List NameId))) → slice_get wakes r ≡ at → HasNoneOf at events
+    by None is = absurd (none_at wakes r within is)
     by (Some None) is = absurd (omega (arith, below, unnamed r (all.always_there r is) behind))
     by (Some (Some names)) is =
         All-from_recursion (IsAway events) names (AllByRecursion-from_contains (IsAway events) names (λ name there event among same.
@@ -51,22 +46,24 @@ none_of triggers always by_name events from first r all behind below within unna
 -- ---- the roots of rules that sleep
 
 module _ (plans : List Plan) (inserted : Bool) (trace : List Step) (guards : List PlacedGuard) (ordered events : List Event)
-    (met : TriggersAreMet) (can : CanAskRoots (map placed_guard guards) plans)
-    (now : (step_at trace (last_position trace)).events ≡ events) (alike : HaveSameEvents (guard_names guards) ordered events) where
+    (unwoken : UnwokenMissesNothing) (can : CanAskRoots (map placed_guard guards) plans)
+    (now : (step_at trace (last_position trace)).events ≡ events) (alike : HaveSameEvents (guard_names guards) ordered events)
+    (fewer : GainsNoSuppressed plans ordered events) where
   abbrev Sleeps : ℕ → Type 0
-  Sleeps r = HasNoneOf (slice_get (map guard_triggers plans) r) ordered
+  Sleeps r = HasNoneOf (slice_get (map waking_names plans) r) ordered
 
   one_asleep : (r : ℕ) → Sleeps r → RootsAreMet plans inserted trace r → RootsAreMet plans inserted trace (r + 1)
   one_asleep r sleeps before = by (slice_get plans r) refl
     where
       by : (at : Option Plan) → slice_get plans r ≡ at → RootsAreMet plans inserted trace (r + 1)
       by None is =
-          absurd (subst (λ o. HasNoneOf o ordered) (get_map guard_triggers plans r ∙ ap (option_map guard_triggers) is) sleeps)
+          absurd (subst (λ o. HasNoneOf o ordered) (get_map waking_names plans r ∙ ap (option_map waking_names) is) sleeps)
       by (Some plan) is =
           one_more_root plans inserted trace plans r plan is before
-          (rule_sleeps trace plan no_values guards ordered events (slice_get (map guard_triggers plans) r) met
+          (rule_sleeps plans plan guards ordered events (there_from_get plans r plan is) alike fewer trace no_values
+          (slice_get (map waking_names plans) r) unwoken
           (AllByRecursion-contains (CanAskRoot (map placed_guard guards)) plans plan can (there_from_get plans r plan is)).0
-          (get_map guard_triggers plans r ∙ ap (option_map guard_triggers) is) now alike sleeps)
+          (get_map waking_names plans r ∙ ap (option_map waking_names) is) now sleeps)
 
   so_many : (k from : ℕ) → ((r : ℕ) → from ≤ r → r < from + k → Sleeps r) → RootsAreMet plans inserted trace from
       → RootsAreMet plans inserted trace (from + k)

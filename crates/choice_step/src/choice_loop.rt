@@ -2,13 +2,15 @@
 ghost use Rattle.std.specs.Prelude.{◌≡◌, ◌<◌, false, IfNone, IfOk, IfSome, IsTrue, None, OnOk, length, map};
 ghost use Rattle.choice_step.specs.machine.Situations.{AreAmong, CanDecideSituation, SituationFinds};
 ghost use Rattle.choice_step.specs.machine.Situations.{IsFoundInSituation, IsMetBefore, SituationLeads, NoneIsWoken};
+ghost use Rattle.choice_step.specs.machine.Situations.{situation_plans};
 ghost use Rattle.choice_step.specs.machine.StepChoices.{CanDecide, IsChoice, step_situation};
 ghost use Rattle.choice_step.specs.machine.FirstActions.{rule_found};
+ghost use Rattle.choice_step.specs.machine.RuleTriggers.{GainsNoSuppressed};
 ghost use Rattle.enf_formula.specs.machine.Agreement.{HaveSameEvents};
 ghost use Rattle.past_state.specs.machine.ValueSources.{AreKnown};
 ghost use Rattle.past_state.specs.machine.Past.{AreTablesAtStep, GuardsWillHold, guard_names};
 ghost use Rattle.plan_terms.specs.machine.StoredPlans.{plan_of};
-ghost use Rattle.plan_terms.specs.meaning.Plans.{guard_triggers};
+ghost use Rattle.plan_terms.specs.machine.WakingNames.{waking_names};
 ghost use Rattle.sleepers.specs.machine.Entries.{shown};
 
 use crate::actions::Actions;
@@ -22,14 +24,13 @@ use enf_data::items::Duplicate;
 use enf_data::memory::NoMemory;
 use enf_formula::laws::dependence;
 use monitorable_guard::StepEvents;
-use obligations::laws::pending_exists;
+use obligations::laws::{pending_exists, unwoken_is_idle};
 use obligations::{Instance, Now};
 use past_state::laws::unread_tables_stay;
 use past_state::{PastState, Tables};
 use pending::Pending;
 use pending::laws::sleepers_stay;
 use plan_terms::Plan;
-use plan_terms::laws::triggers_are_met;
 use std::alloc::Global;
 
 /// What is done at a step: its events at the end, the actions that led to them in their order, and the tables of the
@@ -94,7 +95,7 @@ pub fn choose_with(
     events: EventSet,
     inserted: bool,
 ) -> Result<Choice, NoMemory>
-    requires wakes { wakes.now ≡ map guard_triggers (map plan_of plans.now) }
+    requires wakes { wakes.now ≡ map waking_names (map plan_of plans.now) }
     requires can { CanDecide (step_situation plans.now pending.now past.now time position inserted) }
     ensures chosen { IfOk result
         (IsChoice (step_situation plans.now pending.now past.now time position inserted) events) }
@@ -259,7 +260,7 @@ fn act_last(
     ensures same { IfOk result (λ ended. IsTrue ended
         → HaveSameEvents (guard_names situation.now.past.now.guards) events.old events.new) }
 {
-    triggers_are_met();
+    unwoken_is_idle();
     let rule = rule_of(found.asked) as usize;
     let reached = act_for(
         alloc,
@@ -388,6 +389,7 @@ fn next_from<'a>(
     requires hold { GuardsWillHold situation.now.past.now situation.now.time ordered.now tables.now }
     requires known { AreKnown situation.now.past.now ordered.now tables.now }
     requires same { HaveSameEvents (guard_names situation.now.past.now.guards) ordered.now events.now }
+    requires fewer { GainsNoSuppressed (situation_plans situation.now) ordered.now events.now }
     requires before { IsMetBefore situation.now (shown waiting.now) events.now from }
     ensures nothing { IfOk result (λ found. IfNone found (SituationFinds situation.now events.now None)) }
     ensures found { IfOk result (λ found. IfSome found (IsFoundInSituation situation.now ordered.now events.now)) }

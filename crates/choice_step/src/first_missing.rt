@@ -10,6 +10,7 @@ ghost use Rattle.choice_step.specs.machine.FirstActions.{IsActionFor, IsPlainFou
 ghost use Rattle.choice_step.specs.machine.FirstActions.{root_literals, rule_by, rule_found};
 ghost use Rattle.choice_step.specs.machine.MetPlaces.{RootsAreMet};
 ghost use Rattle.choice_step.specs.machine.RootLiterals.{RootMisses, WasFound};
+ghost use Rattle.choice_step.specs.machine.RuleTriggers.{GainsNoSuppressed};
 ghost use Rattle.choice_step.specs.machine.Situations.{AreAmong, CanDecideSituation, IsLiteralInSituation, IsMetAt};
 ghost use Rattle.choice_step.specs.machine.Situations.{IsWantedInSituation, situation_plans};
 ghost use Rattle.enf_formula.specs.machine.Agreement.{HaveSameEvents};
@@ -33,11 +34,11 @@ use crate::situation::Situation;
 use enf_data::event_sets::EventSet;
 use enf_data::items::Duplicate;
 use enf_data::memory::NoMemory;
+use obligations::laws::unwoken_is_idle;
 use obligations::missing_literals::{first_missing, first_missing_of, lack};
 use obligations::plain_plans::is_plain;
 use obligations::{Action, Instance, Literal, LiteralKind, Now};
 use plan_terms::Plan;
-use plan_terms::laws::triggers_are_met;
 use std::alloc::Global;
 use valuations::{Frame, Valuation};
 
@@ -76,6 +77,7 @@ pub fn first_action<'a>(
     requires can { CanDecideSituation situation.now }
     requires guards { now.now.tables.now.guards ≡ situation.now.past.now.guards }
     requires ordered { HaveSameEvents (guard_names now.now.tables.now.guards) now.now.ordered.now now.now.events.now }
+    requires fewer { GainsNoSuppressed (situation_plans situation.now) now.now.ordered.now now.now.events.now }
     requires among { AreAmong situation.now (shown waiting.now) }
     ensures some { IfOk result (λ found. IfSome found (λ f. 0 < length f.literals.items)) }
     ensures plain { IfOk result (λ found. IfSome found
@@ -158,6 +160,7 @@ fn first_root<'a>(
     requires can { CanDecideSituation situation.now }
     requires guards { now.now.tables.now.guards ≡ situation.now.past.now.guards }
     requires ordered { HaveSameEvents (guard_names now.now.tables.now.guards) now.now.ordered.now now.now.events.now }
+    requires fewer { GainsNoSuppressed (situation_plans situation.now) now.now.ordered.now now.now.events.now }
     ensures some { IfOk result (λ found. IfSome found (λ f. 0 < length f.literals.items)) }
     ensures plain { IfOk result (λ found. IfSome found
         (IsPlainFound (situation_plans situation.now))) }
@@ -180,7 +183,7 @@ fn first_root<'a>(
         (λ f. (literal : AnyLiteral) → Contains (root_literals f) literal
         → IsLiteralInSituation situation.now now.now literal)) }
 {
-    triggers_are_met();
+    unwoken_is_idle();
     let plans = situation.plans;
     let wakes = situation.wakes;
     let all = now.ordered.set().as_slice();

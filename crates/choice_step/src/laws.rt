@@ -75,7 +75,7 @@ pub fn actions_are_justified()
 
 /// Where the events that come in pass a test, and those that plans cause on traces whose events do, all that is emitted
 /// pass it.
-pub fn what_goes_out_fits()
+pub fn what_is_emitted_fits()
     ensures step { DecidedFits }
     ensures records { FollowedFits }
     ensures drain { DrainFits }

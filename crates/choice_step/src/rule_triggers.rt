@@ -3,7 +3,7 @@ ghost use Rattle.std.specs.Prelude.{◌≡◌, ◌≤◌, ◌<◌, ℕ, All, IfO
 ghost use Rattle.std.specs.Option.{option_map};
 ghost use Rattle.choice_step.specs.machine.RuleTriggers.{AllSleep, HasNoneOf, IsAway};
 ghost use Rattle.plan_terms.specs.machine.StoredPlans.{plan_of};
-ghost use Rattle.plan_terms.specs.meaning.Plans.{guard_triggers};
+ghost use Rattle.plan_terms.specs.machine.WakingNames.{waking_names};
 
 use crate::woken_rules::{Woken, always_awake, by_name, first_named, least_from};
 use enf_data::Event;
@@ -11,17 +11,16 @@ use enf_data::events::NameId;
 use enf_data::items::Items;
 use enf_data::memory::NoMemory;
 use monitorable_guard::StepEvents;
-use plan_terms::Plan;
-use plan_terms::triggers::triggers;
+use plan_terms::{Plan, waking};
 use std::alloc::Global;
 use std::marker::Model;
 
-/// The triggers of the rules of a policy: where the root of a rule is a guard with triggers, the rule misses something
-/// only at a step with an event of one of these names. It is made once for the plans.
+/// The names that wake the rules of a policy: a rule that has such misses something only at a step with an event of one
+/// of them. It is made once for the plans.
 #[derive(Drop)]
 pub struct Wakes {
-    triggers: Items<Option<Vec<NameId>>>,
-    // the numbers of those that have none, and the others by their triggers
+    names: Items<Option<Vec<NameId>>>,
+    // the numbers of the rules that have none, and the others by their names
     always: Vec<usize>,
     by_name: Vec<Woken>,
 }
@@ -34,33 +33,33 @@ impl Model for Wakes {
 
     ghost Value = { List (Option (List NameId)) };
 
-    ghost view = { λ w. map (option_map (λ names. names.items)) w.triggers };
+    ghost view = { λ w. map (option_map (λ names. names.items)) w.names };
 
     ghost invariant = { λ w.
-        AreAllIn (map (option_map (λ names. names.items)) w.triggers) w.always.items w.by_name.items };
+        AreAllIn (map (option_map (λ names. names.items)) w.names) w.always.items w.by_name.items };
 }
 
 impl Wakes {
     /// Those of the roots of the plans.
     pub fn of(alloc: Global, plans: &[Plan]) -> Result<Wakes, NoMemory>
-        ensures { IfOk result (λ wakes. wakes ≡ map guard_triggers (map plan_of plans.now)) }
+        ensures { IfOk result (λ wakes. wakes ≡ map waking_names (map plan_of plans.now)) }
     {
-        let triggers = all_triggers(alloc, plans)?;
-        let always = always_awake(alloc, triggers.as_slice())?;
-        let woken = by_name(alloc, triggers.as_slice())?;
+        let names = all_names(alloc, plans)?;
+        let always = always_awake(alloc, names.as_slice())?;
+        let woken = by_name(alloc, names.as_slice())?;
         Ok(Wakes {
-            triggers: Items::from_vec(triggers),
+            names: Items::from_vec(names),
             always,
             by_name: woken,
         })
     }
 
-    /// Whether each rule has triggers, and none of the events is of one of them.
+    /// Whether each rule has names that wake it, and none of the events is of one of them.
     #[inline(always)]
     pub fn all_sleep(&self, events: &[Event]) -> bool
         ensures { IsTrue result → AllSleep self.now events.now }
     {
-        for names in self.triggers.as_slice() {
+        for names in self.names.as_slice() {
             if !is_asleep(names, events) {
                 return false;
             }
@@ -76,7 +75,7 @@ impl Wakes {
         ensures asleep { (rule : ℕ) → from ≤ rule → rule < result
             → HasNoneOf (slice_get self.now rule) events.now }
     {
-        if all.len() > MOST_SEARCHED || self.triggers.len() < FEW_RULES {
+        if all.len() > MOST_SEARCHED || self.names.len() < FEW_RULES {
             return self.next_by_rule(from, all, events);
         }
         self.next_by_name(from, all)
@@ -88,7 +87,7 @@ impl Wakes {
         ensures asleep { (rule : ℕ) → from ≤ rule → rule < result
             → HasNoneOf (slice_get self.now rule) all.now }
     {
-        let last = self.triggers.len();
+        let last = self.names.len();
         if last < from {
             return from;
         }
@@ -104,34 +103,34 @@ impl Wakes {
             → HasNoneOf (slice_get self.now rule) events.now }
     {
         let mut rule = from;
-        while rule < self.triggers.len() && self.sleeps(rule, all, events) {
+        while rule < self.names.len() && self.sleeps(rule, all, events) {
             rule += 1;
         }
         rule
     }
 
-    // Whether the rule of that number has triggers, and the step no event of them; all are its events.
+    // Whether the rule of that number has names that wake it, and the step no event of them; all are its events.
     fn sleeps(&self, rule: usize, all: &[Event], events: &StepEvents<'_>) -> bool
         requires same { all.now ≡ events.now }
         ensures { IsTrue result → HasNoneOf (slice_get self.now rule) events.now }
     {
-        match self.triggers.get(rule) {
+        match self.names.get(rule) {
             Some(Some(names)) => has_none_of(names.as_slice(), all, events),
             Some(None) | None => false,
         }
     }
 }
 
-// The triggers of the roots of the plans.
-fn all_triggers(alloc: Global, plans: &[Plan]) -> Result<Vec<Option<Vec<NameId>>>, NoMemory>
-    ensures { IfOk result (λ triggers. map (option_map (λ names. names.items)) triggers.items
-        ≡ map guard_triggers (map plan_of plans.now)) }
+// The names that wake the plans.
+fn all_names(alloc: Global, plans: &[Plan]) -> Result<Vec<Option<Vec<NameId>>>, NoMemory>
+    ensures { IfOk result (λ all. map (option_map (λ names. names.items)) all.items
+        ≡ map waking_names (map plan_of plans.now)) }
 {
-    let mut triggers = Vec::with_capacity(alloc, plans.len())?;
+    let mut all = Vec::with_capacity(alloc, plans.len())?;
     for plan in plans {
-        triggers.push(triggers_of(alloc, plan)?)?;
+        all.push(waking::waking_names(alloc, plan)?)?;
     }
-    Ok(triggers)
+    Ok(all)
 }
 
 // Whether there are names, and no event is of one of them.
@@ -154,24 +153,6 @@ fn are_away(names: &[NameId], events: &[Event]) -> bool
         }
     }
     true
-}
-
-// The triggers of the guard that is the plan's root.
-fn triggers_of(alloc: Global, plan: &Plan) -> Result<Option<Vec<NameId>>, NoMemory>
-    ensures { IfOk result (λ names. option_map (λ all. all.items) names ≡ guard_triggers (plan_of plan.now)) }
-{
-    match plan {
-        Plan::Guarded { test, .. } => triggers(alloc, test),
-        Plan::Cause { .. }
-        | Plan::Suppress { .. }
-        | Plan::Both { .. }
-        | Plan::Either { .. }
-        | Plan::TestOr { .. }
-        | Plan::Eventually { .. }
-        | Plan::Always { .. }
-        | Plan::Until { .. }
-        | Plan::Next { .. } => Ok(None),
-    }
 }
 
 // Whether the step has no event of the names.

@@ -21,15 +21,15 @@ pub struct Woken {
     pub rule: usize,
 }
 
-// The rules that have no triggers, which each step wakes.
-pub fn always_awake(alloc: Global, triggers: &[Option<Vec<NameId>>]) -> Result<Vec<usize>, NoMemory>
+// The rules that have no names, which each step wakes.
+pub fn always_awake(alloc: Global, wakes: &[Option<Vec<NameId>>]) -> Result<Vec<usize>, NoMemory>
     ensures { IfOk result (λ rules. (rule : ℕ)
-        → slice_get (map (option_map (λ names. names.items)) triggers.now) rule ≡ Some None
+        → slice_get (map (option_map (λ names. names.items)) wakes.now) rule ≡ Some None
         → Contains rules.items rule) }
 {
     let mut rules = Vec::new(alloc);
-    for rule in 0..triggers.len() {
-        if triggers[rule].is_some() {
+    for rule in 0..wakes.len() {
+        if wakes[rule].is_some() {
             continue;
         }
         rules.push(rule)?;
@@ -37,16 +37,16 @@ pub fn always_awake(alloc: Global, triggers: &[Option<Vec<NameId>>]) -> Result<V
     Ok(rules)
 }
 
-// The others with their triggers, in the order of these.
-pub fn by_name(alloc: Global, triggers: &[Option<Vec<NameId>>]) -> Result<Vec<Woken>, NoMemory>
+// The others with their names, in the order of these.
+pub fn by_name(alloc: Global, wakes: &[Option<Vec<NameId>>]) -> Result<Vec<Woken>, NoMemory>
     ensures order { IfOk result (λ woken. IsSortedByKey woken_number nat_cmp woken.items) }
     ensures all { IfOk result (λ woken. (rule : ℕ) (names : List AnyName) (name : AnyName)
-        → slice_get (map (option_map (λ names. names.items)) triggers.now) rule ≡ Some (Some names)
+        → slice_get (map (option_map (λ names. names.items)) wakes.now) rule ≡ Some (Some names)
         → Contains names name → Contains woken.items (record { name = name; rule = rule })) }
 {
     let mut woken = Vec::new(alloc);
-    for rule in 0..triggers.len() {
-        let Some(names) = &triggers[rule] else {
+    for rule in 0..wakes.len() {
+        let Some(names) = &wakes[rule] else {
             continue;
         };
         push_woken(names.as_slice(), rule, &mut woken)?;

@@ -1,6 +1,5 @@
 -- What stays linked where a node comes or goes between two others.
-use Rattle.cursor_list.proofs.Vocabulary.{◌≡◌, refl, List, [], ◌∷◌, ◌++◌, Ptr, Link, LeadsForward}
-use Rattle.cursor_list.proofs.Vocabulary.{LeadsBackTo, LeadsBack, IsChained}
+use Rattle.cursor_list.proofs.Vocabulary.{◌≡◌, refl, List, [], ◌∷◌, ◌++◌, Ptr, Link, LeadsForward, LeadsBackTo, LeadsBack, IsChained}
 
 -- ---- a node at p comes between l and m
 LeadsForward-between : (h p : Ptr) (ks : List Link) (l m : Link) (ms : List Link) → LeadsForward h (ks ++ l ∷ m ∷ ms)

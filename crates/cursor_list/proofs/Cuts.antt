@@ -1,7 +1,5 @@
 -- A list cut at a place, one further on.
-use Rattle.cursor_list.proofs.Vocabulary.{◌≡◌, refl, ap, List, [], ◌∷◌, ◌++◌, append_assoc, ℕ, zero}
-use Rattle.cursor_list.proofs.Vocabulary.{suc, ◌+◌, ◌≤◌, arith, length, take, length-append, length-take}
-use Rattle.cursor_list.proofs.Vocabulary.{cut_at}
+use Rattle.cursor_list.proofs.Vocabulary.{◌≡◌, refl, ap, List, [], ◌∷◌, ◌++◌, append_assoc, ℕ, zero, suc, ◌+◌, ◌≤◌, arith, length, take, length-append, length-take, cut_at}
 use lib.ListN.{drop}
 
 module _ {X : Type 0} where

@@ -1,7 +1,5 @@
 -- Where nodes still lie once another came or went.
-use Rattle.cursor_list.proofs.Vocabulary.{◌≡◌, refl, sym, ap, ◌∙◌, List, [], ◌∷◌, ◌++◌, ℕ, zero}
-use Rattle.cursor_list.proofs.Vocabulary.{suc, ◌<◌, ◌≤◌, arith, length, Link, links_of, place_of, link_at}
-use Rattle.cursor_list.proofs.Vocabulary.{place_of-is, KeepsPlaces}
+use Rattle.cursor_list.proofs.Vocabulary.{◌≡◌, refl, sym, ap, ◌∙◌, List, [], ◌∷◌, ◌++◌, ℕ, zero, suc, ◌<◌, ◌≤◌, arith, length, Link, links_of, place_of, link_at, place_of-is, KeepsPlaces}
 
 module _ {Z : Type 0} where
   front_at : (ns ms : List (Link × Z)) (i : ℕ) → i < length ns → (link_at (links_of ns) i).0 ≡ (link_at (links_of (ns ++ ms)) i).0

@@ -3,16 +3,11 @@
 -- append_out      two rows of nodes, where they are one
 -- says_both      an `ensures` of two facts
 -- nodes_seen      [`head`; `tail`; `len`; the elements; the pointers], after a `&`
-use Rattle.cursor_list.proofs.Vocabulary.{◌≡◌, refl, ◌∙◌, ℕ, ◌+◌, ◌^◌, arith, List, [], ◌∷◌}
-use Rattle.cursor_list.proofs.Vocabulary.{◌++◌, length, Ura, full_share, Gv, w64, Val, vint, vstruct, of_list, Lft}
-use Rattle.cursor_list.proofs.Vocabulary.{GName, Share, flft, fobs, fauth, fbor, fobor, SProp, ent, emp, sep, via, fact}
-use Rattle.cursor_list.proofs.Vocabulary.{fact_i, Logic, sem, Item, Goal, Seq, Step, Soaks, step, prop, ‵, raw}
-use Rattle.cursor_list.proofs.Vocabulary.{◌⊛◌, ◌$◌, ◌∵◌, !, qed, use0, use1, use2, split, frame, done}
-use Rattle.cursor_list.proofs.Vocabulary.{move, drop, fsplit, fsplit3, fjoin, fpick, fpack, feq_i, feq_l, flt_i, flt_l}
-use Rattle.cursor_list.proofs.Vocabulary.{rewrite, Body as Borrowed, RattleType, Valss, usize, cell_at, mem, hidden_shr}
-use Rattle.cursor_list.proofs.Vocabulary.{RawPtr, ptr_val, unhide, hide, nothing, opens, closes, within, Owning, shape}
-use Rattle.cursor_list.proofs.Vocabulary.{Bx, X, R, P, Link, links_of, elem_places, links_lent, spread_lent, words, Hd}
-use Rattle.cursor_list.proofs.Vocabulary.{Held, One, cons_out, cons_in, Nodes}
+use Rattle.cursor_list.proofs.Vocabulary.{◌≡◌, refl, ◌∙◌, ℕ, ◌+◌, ◌^◌, arith, List, [], ◌∷◌, ◌++◌, length, Ura, full_share, Gv, w64, Val, vint, vstruct, of_list, Lft, GName, Share, flft, fobs, fauth}
+use Rattle.cursor_list.proofs.Vocabulary.{fbor, fobor, SProp, ent, emp, sep, via, fact, fact_i, Logic, sem, Item, Goal, Seq, Step, Soaks, step, prop, ‵, raw, ◌⊛◌, ◌$◌, ◌∵◌, !, qed, use0, use1, use2}
+use Rattle.cursor_list.proofs.Vocabulary.{split, frame, done, move, drop, fsplit, fsplit3, fjoin, fpick, fpack, feq_i, feq_l, flt_i, flt_l, rewrite, Body as Borrowed, RattleType, Valss, usize}
+use Rattle.cursor_list.proofs.Vocabulary.{cell_at, mem, hidden_shr, RawPtr, ptr_val, unhide, hide, nothing, opens, closes, within, Owning, shape, Bx, X, R, P, Link, links_of, elem_places, links_lent}
+use Rattle.cursor_list.proofs.Vocabulary.{spread_lent, words, Hd, Held, One, cons_out, cons_in, Nodes}
 use Rattle.cursor_list.specs.contracts.nodes.Nodes as N
 
 module _ (E : Bx) where

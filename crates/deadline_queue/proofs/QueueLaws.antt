@@ -2,8 +2,7 @@
 use Rattle.enf_data.proofs.Lists.{here, later, first_or_later}
 use Rattle.std.proofs.Common.{refl, subst, ⊎_elim, Less, arith, ap, ◌∙◌, sym}
 use Rattle.std.proofs.lemmas.Bool.{cases_eq}
-use Rattle.std.proofs.lemmas.List.Elements.{All-tail, All-head, All-contains, All-replicate, Contains-append_cases}
-use Rattle.std.proofs.lemmas.List.Elements.{Contains-append_left}
+use Rattle.std.proofs.lemmas.List.Elements.{All-tail, All-head, All-contains, All-replicate, Contains-append_cases, Contains-append_left}
 use Rattle.std.proofs.lemmas.List.Folds.{sum_by-replicate}
 use Rattle.std.proofs.lemmas.List.Sums.{sum_by-append}
 use Rattle.std.proofs.lemmas.Map.{lookup-none}
@@ -15,8 +14,7 @@ use Rattle.std.specs.Cmp.{nat_cmp_total, eq_by_cmp_equiv}
 use Rattle.std.specs.Map.{keys_of, values_of}
 use Rattle.std.specs.Option.{unwrap_or}
 use Rattle.std.specs.Ordering.{nat_cmp}
-use Rattle.std.specs.Prelude.{ℕ, ◌≤◌, List, ◌∷◌, ◌≡◌, Contains, replicate, [], zero, suc, Some}
-use Rattle.std.specs.Prelude.{◌==◌, cond, ◌<◌}
+use Rattle.std.specs.Prelude.{ℕ, ◌≤◌, List, ◌∷◌, ◌≡◌, Contains, replicate, [], zero, suc, Some, ◌==◌, cond, ◌<◌}
 use Rattle.deadline_queue.specs.machine.Laws.{EntriesAreHeld, HoldAlike, OneDeadlineQueue}
 use Rattle.deadline_queue.specs.machine.Queues.{IsDeadlineQueue, held_deadlines, IsLeastOf, held_count}
 

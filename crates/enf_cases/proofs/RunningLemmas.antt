@@ -1,6 +1,5 @@
 -- The only guard of a past state, and the steps that a past state stands for.
-use Rattle.std.proofs.Common.{◌≡◌, ℕ, ◌<◌, ◌≤◌, List, [], ◌∷◌, ◌++◌, length, map, Contains}
-use Rattle.std.proofs.Common.{Option, None, Some, sym, subst, arith, length-append}
+use Rattle.std.proofs.Common.{◌≡◌, ℕ, ◌<◌, ◌≤◌, List, [], ◌∷◌, ◌++◌, length, map, Contains, Option, None, Some, sym, subst, arith, length-append}
 use Rattle.std.specs.Prelude.{slice_get}
 use Rattle.enf_data.specs.meaning.Membership.{HasNoRepeats}
 use Rattle.enf_data.specs.meaning.Valuations.{Valuation, BindsColumns}

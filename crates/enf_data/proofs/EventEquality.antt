@@ -1,6 +1,5 @@
 -- The derived `==` of events tells exactly whether they are equal.
-use Rattle.enf_data.proofs.Vocabulary.{◌≡◌, ap, refl, Decides, Decides-eqb, Decides-like, Decides-and}
-use Rattle.enf_data.proofs.Vocabulary.{slice_eq-Decides, Event}
+use Rattle.enf_data.proofs.Vocabulary.{◌≡◌, ap, refl, Decides, Decides-eqb, Decides-like, Decides-and, slice_eq-Decides, Event}
 use Rattle.enf_data.proofs.ValueEquality.{derived_value_eq-Decides}
 use Rattle.enf_data.specs.contracts.events.EventPartialEq.TheImpl as events
 

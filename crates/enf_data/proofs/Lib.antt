@@ -2,6 +2,7 @@ pub mod Vocabulary
 pub mod EventEquality
 pub mod ListFacts
 pub mod Lists
+pub mod RemovalLemmas
 pub mod RisingLists
 pub mod SortedSearch
 pub mod TableKeys

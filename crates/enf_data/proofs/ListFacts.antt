@@ -1,11 +1,7 @@
 -- What std leaves unsaid of lists, numbers, tests and results.
-use Rattle.enf_data.proofs.Vocabulary.{◌≡◌, ℕ, ◌<◌, nat_lt, true, arith, ◌≤◌, nat_le, ◌==◌}
-use Rattle.enf_data.proofs.Vocabulary.{◌≢◌, false, refl, inl, inr, ⊎_elim, zero, suc, ap, Bool, ◌&&◌}
-use Rattle.enf_data.proofs.Vocabulary.{IsTrue, sym, true≢false, not, Result, Ok, Err, OnErr, Some, IfOk, OnOk, List}
-use Rattle.enf_data.proofs.Vocabulary.{[], ◌∷◌, length, Contains, ◌++◌, get_or, subst, flat_map, All}
-use Rattle.enf_data.proofs.Vocabulary.{◌↔◌, map, slice_get, ◌+◌, drop, ◌∙◌, drop-cons, cond, take_while}
-use Rattle.enf_data.proofs.Vocabulary.{◌-◌, take, length-append, drop_at, take_all, nat_tests, false≢true}
-use Rattle.enf_data.proofs.Vocabulary.{Contains-append_left, Contains-append_right, Contains-get_or, All-contains}
+use Rattle.enf_data.proofs.Vocabulary.{◌≡◌, ℕ, ◌<◌, nat_lt, true, arith, ◌≤◌, nat_le, ◌==◌, ◌≢◌, false, refl, inl, inr, ⊎_elim, zero, suc, ap, Bool, ◌&&◌, IsTrue, sym, true≢false, not, Result, Ok}
+use Rattle.enf_data.proofs.Vocabulary.{Err, OnErr, Some, IfOk, OnOk, List, [], ◌∷◌, length, Contains, ◌++◌, get_or, subst, flat_map, All, ◌↔◌, map, slice_get, ◌+◌, drop, ◌∙◌, drop-cons, cond}
+use Rattle.enf_data.proofs.Vocabulary.{take_while, ◌-◌, take, length-append, drop_at, take_all, nat_tests, false≢true, Contains-append_left, Contains-append_right, Contains-get_or, All-contains}
 use Rattle.enf_data.proofs.Vocabulary.{none-some, take_while-cons, result_ok, AllByRecursion, list_all}
 use Rattle.std.proofs.Common.{is_lt, Ordering, Less, Equal, Greater, ◌⊎◌}
 use Rattle.enf_data.proofs.Lists.{Contains-append, first_or_later, here, none_in_nil}

@@ -1,13 +1,9 @@
 -- Being in a list, what holds of each of its items, and lists without repeats.
-use Rattle.enf_data.proofs.Vocabulary.{HasNoRepeats, sym, refl, ◌∙◌, false, true≢false, [], ◌∷◌, arith}
-use Rattle.enf_data.proofs.Vocabulary.{inl, inr, ⊎_elim, subst, get_or, ltb, ap, drop, ◌-◌, Decides-like}
-use Rattle.enf_data.proofs.Vocabulary.{Decides-by_or, nat_tests, Decides-contains, All-contains, All-from_recursion}
-use Rattle.enf_data.proofs.Vocabulary.{Contains-push_cases, Contains-append_right, IsDistinct-head, IsDistinct-tail}
-use Rattle.enf_data.proofs.Vocabulary.{same_Some, none-some, Decides, list_any, IsDistinct, AllByRecursion, find}
-use Rattle.enf_data.proofs.Vocabulary.{position_or_len, filter, option_map, ◌⊎◌, position, Option, None}
+use Rattle.enf_data.proofs.Vocabulary.{HasNoRepeats, sym, refl, ◌∙◌, false, true≢false, [], ◌∷◌, arith, inl, inr, ⊎_elim, subst, get_or, ltb, ap, drop, ◌-◌, Decides-like, Decides-by_or, nat_tests}
+use Rattle.enf_data.proofs.Vocabulary.{Decides-contains, All-contains, All-from_recursion, Contains-push_cases, Contains-append_right, IsDistinct-head, IsDistinct-tail, same_Some, none-some, Decides}
+use Rattle.enf_data.proofs.Vocabulary.{list_any, IsDistinct, AllByRecursion, find, position_or_len, filter, option_map, ◌⊎◌, position, Option, None}
 use Rattle.std.specs.List.{slice_get}
-use Rattle.std.specs.Prelude.{◌≡◌, Bool, List, Contains, suc, zero, ℕ, Some, ◌++◌, true, cond}
-use Rattle.std.specs.Prelude.{◌<◌, length, map}
+use Rattle.std.specs.Prelude.{◌≡◌, Bool, List, Contains, suc, zero, ℕ, Some, ◌++◌, true, cond, ◌<◌, length, map}
 
 -- a look-up by a test that tells equality tells whether the key is in the list
 pub list_any-Decides : {K : Type 0} (eq : K → K → Bool) → ((x y : K) → Decides (eq x y) (x ≡ y))

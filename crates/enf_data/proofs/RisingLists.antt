@@ -1,8 +1,7 @@
 -- What rises has no repeats, and two rising lists of the same items are one.
 use Rattle.enf_data.proofs.Lists.{here, later, first_or_later, none_in_nil}
-use Rattle.enf_data.proofs.Vocabulary.{HasNoRepeats, ◌≡◌, List, [], ◌∷◌, ◌++◌, Contains, refl, sym, ap}
-use Rattle.enf_data.proofs.Vocabulary.{subst, ⊎_elim, ◌∙◌, Contains-append_right, sorted_head, sorted_tail}
-use Rattle.enf_data.proofs.Vocabulary.{IsTotalOrder, AllByRecursion, ordering_reverse, Ordering, Less, Greater}
+use Rattle.enf_data.proofs.Vocabulary.{HasNoRepeats, ◌≡◌, List, [], ◌∷◌, ◌++◌, Contains, refl, sym, ap, subst, ⊎_elim, ◌∙◌, Contains-append_right, sorted_head, sorted_tail, IsTotalOrder}
+use Rattle.enf_data.proofs.Vocabulary.{AllByRecursion, ordering_reverse, Ordering, Less, Greater}
 use Rattle.std.specs.List.Sorted.{IsStrictlySortedBy}
 
 module _ {X : Type 0} {R : X → X → Ordering} (order : IsTotalOrder R) where

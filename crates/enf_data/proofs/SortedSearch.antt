@@ -1,11 +1,7 @@
 -- The items with one key in a list that is sorted by keys, between the places that two searches find.
-use Rattle.enf_data.proofs.Vocabulary.{inl, inr, ◌≤◌, true, refl, arith, false, sym, IsTrue, Result, Ok, Err}
-use Rattle.enf_data.proofs.Vocabulary.{is_ok, ℕ, ◌+◌, ◌-◌, ◌<◌, ⊎_elim, List, [], ◌∷◌, length}
-use Rattle.enf_data.proofs.Vocabulary.{take, drop, get_or, Contains, ◌↔◌, ap, ◌∙◌, length-take, length-drop}
-use Rattle.enf_data.proofs.Vocabulary.{get_or-take, get_or-drop, false≢true, cases_lt, Contains-get_or}
-use Rattle.enf_data.proofs.Vocabulary.{searchable_from_sorted, IsNonDecreasingBy-drop, IsTotalOrder, tied_itself}
-use Rattle.enf_data.proofs.Vocabulary.{IsAntisymmetric, IsSortedBy, IsNonDecreasingBy, IsPartitionedBy}
-use Rattle.enf_data.proofs.Vocabulary.{IsPartitionPoint, IsSearchInRange, IsBinarySearchResult, is_lt, ordering_index}
+use Rattle.enf_data.proofs.Vocabulary.{inl, inr, ◌≤◌, true, refl, arith, false, sym, IsTrue, Result, Ok, Err, is_ok, ℕ, ◌+◌, ◌-◌, ◌<◌, ⊎_elim, List, [], ◌∷◌, length, take, drop, get_or, Contains, ◌↔◌}
+use Rattle.enf_data.proofs.Vocabulary.{ap, ◌∙◌, length-take, length-drop, get_or-take, get_or-drop, false≢true, cases_lt, Contains-get_or, searchable_from_sorted, IsNonDecreasingBy-drop, IsTotalOrder}
+use Rattle.enf_data.proofs.Vocabulary.{tied_itself, IsAntisymmetric, IsSortedBy, IsNonDecreasingBy, IsPartitionedBy, IsPartitionPoint, IsSearchInRange, IsBinarySearchResult, is_lt, ordering_index}
 use Rattle.enf_data.proofs.Vocabulary.{is_le, ◌⊎◌, Ordering, Less, Equal, Greater}
 use Rattle.std.specs.Prelude.{◌≡◌}
 

@@ -1,10 +1,7 @@
 -- What the words of `IndexSet` say of its keys as a list, where `==` at the keys tells exactly whether they are equal.
-use Rattle.enf_data.proofs.Vocabulary.{◌≡◌, ℕ, ◌<◌, ◌+◌, Bool, true, false, cond, not, ◌||◌, List}
-use Rattle.enf_data.proofs.Vocabulary.{[], ◌∷◌, ◌++◌, length, get_or, take, Contains, refl, sym, ap, subst}
-use Rattle.enf_data.proofs.Vocabulary.{◌∙◌, append_assoc, append-nil, true≢false, arith, Result, Ok, Err}
-use Rattle.enf_data.proofs.Vocabulary.{is_err, slice_get, remove, Some, IfOk, OnErr, MatchResult, if◌then◌else◌}
-use Rattle.enf_data.proofs.Vocabulary.{suc, zero, Decides, list_any, IsErrAnd, Contains-get_or, take_more, insert_key}
-use Rattle.enf_data.proofs.Vocabulary.{remove_key, HasNoRepeats, TakesOut, InsertsItem, InsertsEach, RemovesItem}
+use Rattle.enf_data.proofs.Vocabulary.{◌≡◌, ℕ, ◌<◌, ◌+◌, Bool, true, false, cond, not, ◌||◌, List, [], ◌∷◌, ◌++◌, length, get_or, take, Contains, refl, sym, ap, subst, ◌∙◌, append_assoc, append-nil}
+use Rattle.enf_data.proofs.Vocabulary.{true≢false, arith, Result, Ok, Err, is_err, slice_get, remove, Some, IfOk, OnErr, MatchResult, if◌then◌else◌, suc, zero, Decides, list_any, IsErrAnd}
+use Rattle.enf_data.proofs.Vocabulary.{Contains-get_or, take_more, insert_key, remove_key, HasNoRepeats, TakesOut, InsertsItem, InsertsEach, RemovesItem}
 use Rattle.enf_data.proofs.Lists.{list_any-Decides, HasNoRepeats-middle}
 use Rattle.enf_data.proofs.ListFacts.{Contains-insert}
 

@@ -1,9 +1,6 @@
 -- Terms and their values, names, events and steps.
-use Rattle.enf_data.proofs.Vocabulary.{◌≡◌, [], ◌∷◌, Contains, refl, List, arith, get_or, drop, map, Some}
-use Rattle.enf_data.proofs.Vocabulary.{sym, ap, ◌∙◌, suc, length, subst, IsSome, ◌++◌, same_Some, none-some}
-use Rattle.enf_data.proofs.Vocabulary.{Var, Const, VarId, Valuation, value_at, value_of_term, values_of_terms}
-use Rattle.enf_data.proofs.Vocabulary.{onto_values, bindings, no_values, variable_cmp, Term, Value, NameId}
-use Rattle.enf_data.proofs.Vocabulary.{HasNoRepeats, Event, step_at, Step}
+use Rattle.enf_data.proofs.Vocabulary.{◌≡◌, [], ◌∷◌, Contains, refl, List, arith, get_or, drop, map, Some, sym, ap, ◌∙◌, suc, length, subst, IsSome, ◌++◌, same_Some, none-some, Var, Const, VarId}
+use Rattle.enf_data.proofs.Vocabulary.{Valuation, value_at, value_of_term, values_of_terms, onto_values, bindings, no_values, variable_cmp, Term, Value, NameId, HasNoRepeats, Event, step_at, Step}
 use Rattle.std.specs.List.Sorted.{IsStrictlySortedBy}
 use Rattle.std.proofs.Common.{Option, None}
 use Rattle.enf_data.proofs.Lists.{later, none_in_nil}

@@ -1,6 +1,5 @@
 -- The laws of valuations as maps.
-use Rattle.enf_data.proofs.Vocabulary.{VarId, Value, variable_cmp, Valuation, value_at, ap, IsTotalOrder, nat_cmp_total}
-use Rattle.enf_data.proofs.Vocabulary.{on_total, eq_by_cmp}
+use Rattle.enf_data.proofs.Vocabulary.{VarId, Value, variable_cmp, Valuation, value_at, ap, IsTotalOrder, nat_cmp_total, on_total, eq_by_cmp}
 use Rattle.std.specs.Prelude.{◌≡◌, cond, Some}
 use Rattle.std.specs.FinMap as map
 

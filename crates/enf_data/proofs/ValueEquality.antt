@@ -1,9 +1,7 @@
 -- Equality of values, rows and events can be decided.
 use Rattle.enf_data.proofs.Lists.{list_any-Decides}
-use Rattle.enf_data.proofs.Vocabulary.{Event, Value, Num, Text, value_eq-Decides, row_eq, event_eq, has_event, refl, ap}
-use Rattle.enf_data.proofs.Vocabulary.{sym, true≢false, inl, inr, ⊎_elim, false≢true, Decides-eqb, Decides-like}
-use Rattle.enf_data.proofs.Vocabulary.{Decides-and, Decides-int_eq, same_Some, none-some, slice_eq-Decides}
-use Rattle.enf_data.proofs.Vocabulary.{bytes_eq-Decides, Decides, ◌⊎◌, Option, None}
+use Rattle.enf_data.proofs.Vocabulary.{Event, Value, Num, Text, value_eq-Decides, row_eq, event_eq, has_event, refl, ap, sym, true≢false, inl, inr, ⊎_elim, false≢true, Decides-eqb, Decides-like}
+use Rattle.enf_data.proofs.Vocabulary.{Decides-and, Decides-int_eq, same_Some, none-some, slice_eq-Decides, bytes_eq-Decides, Decides, ◌⊎◌, Option, None}
 use Rattle.std.specs.Prelude.{◌≡◌, List, Contains, Bool, true, false, Some}
 use Rattle.enf_data.specs.contracts.values.ValuePartialEq.TheImpl as values
 use Rattle.enf_data.specs.contracts.rows.RowPartialEq.TheImpl as rows

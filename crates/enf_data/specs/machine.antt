@@ -2,3 +2,4 @@ pub mod Codes
 pub mod EventSets
 pub mod StoredEvents
 pub mod ValueTests
+pub mod RowOrders

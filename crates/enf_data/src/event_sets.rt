@@ -1,12 +1,14 @@
 //! Sets of events, in the order in which the events came.
 ghost use Rattle.std.specs.Prelude.{◌≡◌, ◌↔◌, ◌<◌, ◌≤◌, ◌+◌, ◌++◌, ◌∷◌, IsTrue};
 ghost use Rattle.std.specs.Prelude.{List, [], Some, Contains, length, IfOk, IfErr, IfNone, IfSome, OnErr, OnOk};
-ghost use Rattle.std.specs.Prelude.{slice_get};
+ghost use Rattle.std.specs.Prelude.{slice_get, not};
 ghost use Rattle.std.specs.Option.{option_copied};
 ghost use Rattle.std.specs.Vec.{vec_capacity, vec_len};
 ghost use Rattle.indexmap.specs.IndexSet.{spare};
 ghost use Rattle.enf_data.specs.meaning.Membership.{HasNoRepeats};
-ghost use Rattle.enf_data.specs.machine.EventSets.{InsertsItem, InsertsEach, RemovesItem};
+ghost use Rattle.enf_data.specs.machine.EventSets.{InsertsItem, InsertsEach, RemovesItem, TakenOutAreGone};
+ghost use Rattle.enf_data.specs.machine.EventSets.{without_events};
+ghost use Rattle.enf_data.specs.meaning.Values.{has_event};
 
 use crate::events::Event;
 use crate::items::Duplicate;
@@ -113,6 +115,17 @@ impl EventSet {
         match &mut self.events {
             Stored::Few(few) => remove_searched(few, event),
             Stored::Many(table) => remove_from_table(table, event),
+        }
+    }
+
+    /// Takes the events of another set out. The rest keeps its order.
+    pub fn remove_all(&mut self, gone: &EventSet)
+        ensures removed { self.new ≡ without_events self.old gone.now }
+        ensures distinct { HasNoRepeats self.new }
+    {
+        match &mut self.events {
+            Stored::Few(few) => keep_searched(few, gone),
+            Stored::Many(table) => keep_in_table(table, gone),
         }
     }
 
@@ -249,6 +262,43 @@ fn remove_searched(few: &mut Vec<Event>, event: &Event) -> bool
         None => false,
     }
 }
+
+// Takes the events of a set out of a few.
+fn keep_searched(few: &mut Vec<Event>, gone: &EventSet)
+    requires { HasNoRepeats few.old.items }
+    ensures removed { few.new.items ≡ without_events few.old.items gone.now }
+    ensures distinct { HasNoRepeats few.new.items }
+{
+    few.retain(
+        |event: &Event| -> bool
+            ensures { result ≡ not (has_event gone.entry.now event.now) }
+        { is_kept(gone, event) },
+    );
+}
+
+// Takes the events of a set out of a table, which is gone through once.
+fn keep_in_table(table: &mut IndexSet<Event>, gone: &EventSet)
+    ensures removed { table.new.keys ≡ without_events table.old.keys gone.now }
+    ensures distinct { HasNoRepeats table.new.keys }
+{
+    table.retain(
+        |event: &Event| -> bool
+            ensures { result ≡ not (has_event gone.entry.now event.now) }
+        { is_kept(gone, event) },
+    );
+}
+
+// Whether an event is none of those that go.
+fn is_kept(gone: &EventSet, event: &Event) -> bool
+    ensures { result ≡ not (has_event gone.now event.now) }
+{
+    !gone.contains(event)
+}
+
+/// To take events out at once is to take them out one after another.
+pub fn taken_out_are_gone()
+    ensures { TakenOutAreGone }
+{}
 
 // Where an event stands.
 fn place_of(events: &[Event], event: &Event) -> Option<usize>

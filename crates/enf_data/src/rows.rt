@@ -102,6 +102,38 @@ impl Row {
     }
 }
 
+impl PartialOrd for Row {
+    ghost use Rattle.std.specs.Ordering.{as_partial_cmp};
+    ghost use Rattle.enf_data.specs.meaning.Values.{row_cmp};
+    ghost use Rattle.enf_data.specs.machine.RowOrders.{row_order};
+
+    ghost partial_cmp = { as_partial_cmp row_cmp };
+
+    ghost laws = { row_order };
+
+    fn partial_cmp(&self, other: &Row) -> Option<Ordering> {
+        Some(self.compare(other))
+    }
+}
+
+impl Ord for Row {
+    ghost use Rattle.std.specs.Prelude.{refl};
+    ghost use Rattle.enf_data.specs.meaning.Values.{row_cmp};
+    ghost use Rattle.enf_data.specs.machine.RowOrders.{row_cmp_total, row_ties};
+
+    ghost cmp = { row_cmp };
+
+    ghost total = { row_cmp_total };
+
+    ghost matches_partial_cmp = { λ x y. refl };
+
+    ghost matches_eq = { row_ties };
+
+    fn cmp(&self, other: &Row) -> Ordering {
+        self.compare(other)
+    }
+}
+
 impl Duplicate for Row {
     fn duplicate(&self, alloc: Global) -> Result<Row, NoMemory> {
         Ok(Row {

@@ -1,16 +1,10 @@
 -- On what the satisfaction of a formula depends.
-use Rattle.enf_formula.proofs.Vocabulary.{◌≡◌, ℕ, ◌+◌, ◌-◌, ◌<◌, ◌≤◌, ◌<ℤ◌}
-use Rattle.enf_formula.proofs.Vocabulary.{◌≤ℤ◌, Bool, true, false, cond, IsTrue, List, [], ◌∷◌, length}
-use Rattle.enf_formula.proofs.Vocabulary.{Option, Some, Contains, arith, refl, sym, ap, subst, ◌∙◌, inl, inr}
-use Rattle.enf_formula.proofs.Vocabulary.{true≢false, ⊎_elim, tied_itself, eq_by_cmp, is_eq, Contains-append_right}
-use Rattle.enf_formula.proofs.Vocabulary.{Contains-append_cases, step_at, IsIn, Valuation, value_at, value_of_term}
-use Rattle.enf_formula.proofs.Vocabulary.{values_of_terms, with_values, variable_cmp, value_at-insert}
-use Rattle.enf_formula.proofs.Vocabulary.{variable_cmp_total, Interval, Step, VarId, Value, both_true, value_alike}
-use Rattle.enf_formula.proofs.Vocabulary.{values_alike, Formula, True, False, Atom, Equal, Less, AtMost, Not, And, Or}
-use Rattle.enf_formula.proofs.Vocabulary.{Implies, Exists, Forall, Prev, Next, Once, Historically, Since, Eventually}
-use Rattle.enf_formula.proofs.Vocabulary.{Always, Until, Sat, IsEventAmong, AreSameValues, AreNumbersInOrder, HeldSince}
-use Rattle.enf_formula.proofs.Vocabulary.{HoldsUntil, HoldsAnywhere, AgreeOnFreeVariables, AgreeUpTo}
-use Rattle.enf_formula.proofs.Vocabulary.{FreeVariablesDecide, PastDecides, is_past}
+use Rattle.enf_formula.proofs.Vocabulary.{◌≡◌, ℕ, ◌+◌, ◌-◌, ◌<◌, ◌≤◌, ◌<ℤ◌, ◌≤ℤ◌, Bool, true, false, cond, IsTrue, List, [], ◌∷◌, length, Option, Some, Contains, arith, refl, sym, ap, subst, ◌∙◌, inl}
+use Rattle.enf_formula.proofs.Vocabulary.{inr, true≢false, ⊎_elim, tied_itself, eq_by_cmp, is_eq, Contains-append_right, Contains-append_cases, step_at, IsIn, Valuation, value_at, value_of_term}
+use Rattle.enf_formula.proofs.Vocabulary.{values_of_terms, with_values, variable_cmp, value_at-insert, variable_cmp_total, Interval, Step, VarId, Value, both_true, value_alike, values_alike, Formula}
+use Rattle.enf_formula.proofs.Vocabulary.{True, False, Atom, Equal, Less, AtMost, Not, And, Or, Implies, Exists, Forall, Prev, Next, Once, Historically, Since, Eventually, Always, Until, Sat}
+use Rattle.enf_formula.proofs.Vocabulary.{IsEventAmong, AreSameValues, AreNumbersInOrder, HeldSince, HoldsUntil, HoldsAnywhere, AgreeOnFreeVariables, AgreeUpTo, FreeVariablesDecide, PastDecides}
+use Rattle.enf_formula.proofs.Vocabulary.{is_past}
 use Rattle.enf_formula.proofs.Gathering.{only_one}
 use Rattle.std.specs.FinMap as map
 

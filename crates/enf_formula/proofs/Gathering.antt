@@ -1,12 +1,8 @@
 -- How the free variables are gathered.
-use Rattle.enf_formula.proofs.Vocabulary.{◌≡◌, zero, suc, Bool, true, false, cond, List, [], ◌∷◌, ◌++◌}
-use Rattle.enf_formula.proofs.Vocabulary.{Result, Ok, Err, IfOk, Contains, arith, refl, sym, ap, subst, ◌∙◌, inl}
-use Rattle.enf_formula.proofs.Vocabulary.{inr, ⊎_elim, ◌⊎◌, tied_itself, Decides, list_any, nat_eq}
-use Rattle.enf_formula.proofs.Vocabulary.{Decides-like, Decides-eqb, list_any-Decides, BTreeSet, contains, eq_by_cmp}
-use Rattle.enf_formula.proofs.Vocabulary.{is_eq, btree_set_contains_iff, tells_apart, Contains-append_left}
-use Rattle.enf_formula.proofs.Vocabulary.{Contains-append_cases, Contains-push, variable_cmp, variable_cmp_same}
-use Rattle.enf_formula.proofs.Vocabulary.{variable_cmp_total, Term, Var, VarId, Formula, AreFreeVariables, IsFree}
-use Rattle.enf_formula.proofs.Vocabulary.{AddsVariables, IsStrictlySortedBy}
+use Rattle.enf_formula.proofs.Vocabulary.{◌≡◌, zero, suc, Bool, true, false, cond, List, [], ◌∷◌, ◌++◌, Result, Ok, Err, IfOk, Contains, arith, refl, sym, ap, subst, ◌∙◌, inl, inr, ⊎_elim, ◌⊎◌}
+use Rattle.enf_formula.proofs.Vocabulary.{tied_itself, Decides, list_any, nat_eq, Decides-like, Decides-eqb, list_any-Decides, BTreeSet, contains, eq_by_cmp, is_eq, btree_set_contains_iff}
+use Rattle.enf_formula.proofs.Vocabulary.{tells_apart, Contains-append_left, Contains-append_cases, Contains-push, variable_cmp, variable_cmp_same, variable_cmp_total, Term, Var, VarId, Formula}
+use Rattle.enf_formula.proofs.Vocabulary.{AreFreeVariables, IsFree, AddsVariables, IsStrictlySortedBy}
 
 pub adds_same : {P Q : VarId → Type 0} {before after : List VarId} → ((x : VarId) → P x → Q x) → ((x : VarId) → Q x → P x) → AddsVariables P before after → AddsVariables Q before after
 adds_same to from a = record { kept = a.kept; added = λ x q. a.added x (from x q); only = λ x h. ⊎_elim (λ b. inl b) (λ p. inr (to x p)) (a.only x h) }

@@ -1,11 +1,7 @@
 -- Satisfaction depends on the times of the steps and on the events of the formula's names alone.
-use Rattle.enf_formula.proofs.Vocabulary.{◌≡◌, ℕ, ◌+◌, ◌-◌, ◌<◌, List, [], Option, None, Some}
-use Rattle.enf_formula.proofs.Vocabulary.{Contains, sym, subst, refl, Contains-append_left, Contains-append_right}
-use Rattle.enf_formula.proofs.Vocabulary.{step_at, IsIn, Valuation, values_of_terms, with_values, Event, NameId, Step}
-use Rattle.enf_formula.proofs.Vocabulary.{Value, here, Formula, True, False, Atom, Equal, Less, AtMost, Not, And, Or}
-use Rattle.enf_formula.proofs.Vocabulary.{Implies, Exists, Forall, Prev, Next, Once, Historically, Since, Eventually}
-use Rattle.enf_formula.proofs.Vocabulary.{Always, Until, Sat, IsEventAmong, HoldsAnywhere, NamesDecide}
-use Rattle.enf_formula.proofs.Vocabulary.{HaveSameNamedEvents, names_in_formula}
+use Rattle.enf_formula.proofs.Vocabulary.{◌≡◌, ℕ, ◌+◌, ◌-◌, ◌<◌, List, [], Option, None, Some, Contains, sym, subst, refl, Contains-append_left, Contains-append_right, step_at, IsIn, Valuation}
+use Rattle.enf_formula.proofs.Vocabulary.{values_of_terms, with_values, Event, NameId, Step, Value, here, Formula, True, False, Atom, Equal, Less, AtMost, Not, And, Or, Implies, Exists, Forall, Prev}
+use Rattle.enf_formula.proofs.Vocabulary.{Next, Once, Historically, Since, Eventually, Always, Until, Sat, IsEventAmong, HoldsAnywhere, NamesDecide, HaveSameNamedEvents, names_in_formula}
 use Rattle.enf_formula.proofs.Dependence.{held_since, holds_until}
 
 turned : (names : List NameId) (trace other : List Step) → HaveSameNamedEvents names trace other → HaveSameNamedEvents names other trace

@@ -1,14 +1,8 @@
 -- Each formula holds where its denial is false: the connectives and operators are classical, and the rest can be decided.
-use Rattle.enf_formula.proofs.Vocabulary.{◌≡◌, ℕ, ◌+◌, ◌-◌, ◌≤◌, ◌<ℤ◌, ◌≤ℤ◌, ℤ}
-use Rattle.enf_formula.proofs.Vocabulary.{Bool, true, false, List, Option, None, Some, Contains, arith, refl, ⊎_elim}
-use Rattle.enf_formula.proofs.Vocabulary.{clash_ℤ, cases_lt, by_lt_z, Decides-contains, Decides-by_or}
-use Rattle.enf_formula.proofs.Vocabulary.{not_from_Decides, list_any, step_at, Step, value_eq, event_eq}
-use Rattle.enf_formula.proofs.Vocabulary.{value_eq-Decides, event_eq-Decides, IsIn, IsUpTo, Event, NameId, Interval}
-use Rattle.enf_formula.proofs.Vocabulary.{Value, Num, Text, Formula, True, False, Atom, Equal, Less, AtMost, Not, And}
-use Rattle.enf_formula.proofs.Vocabulary.{Or, Implies, Exists, Forall, Prev, Next, Once, Historically, Since}
-use Rattle.enf_formula.proofs.Vocabulary.{Eventually, Always, Until, Sat, IsEventAmong, AreSameValues}
-use Rattle.enf_formula.proofs.Vocabulary.{AreNumbersInOrder, IsStable, Valuation, with_values, value_of_term}
-use Rattle.enf_formula.proofs.Vocabulary.{values_of_terms}
+use Rattle.enf_formula.proofs.Vocabulary.{◌≡◌, ℕ, ◌+◌, ◌-◌, ◌≤◌, ◌<ℤ◌, ◌≤ℤ◌, ℤ, Bool, true, false, List, Option, None, Some, Contains, arith, refl, ⊎_elim, clash_ℤ, cases_lt, by_lt_z}
+use Rattle.enf_formula.proofs.Vocabulary.{Decides-contains, Decides-by_or, not_from_Decides, list_any, step_at, Step, value_eq, event_eq, value_eq-Decides, event_eq-Decides, IsIn, IsUpTo, Event}
+use Rattle.enf_formula.proofs.Vocabulary.{NameId, Interval, Value, Num, Text, Formula, True, False, Atom, Equal, Less, AtMost, Not, And, Or, Implies, Exists, Forall, Prev, Next, Once, Historically}
+use Rattle.enf_formula.proofs.Vocabulary.{Since, Eventually, Always, Until, Sat, IsEventAmong, AreSameValues, AreNumbersInOrder, IsStable, Valuation, with_values, value_of_term, values_of_terms}
 use Rattle.std.proofs.Common.{Decides}
 
 denial_stable : (P : Type 0) → IsStable (P → ⊥)

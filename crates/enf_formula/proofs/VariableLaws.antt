@@ -1,12 +1,8 @@
 -- The laws of free variables and of scopes.
-use Rattle.enf_formula.proofs.Vocabulary.{same_rising, variable_cmp_total, Term, Var, VarId, variable_cmp, Contains}
-use Rattle.enf_formula.proofs.Vocabulary.{subst, zero, suc, [], ◌∷◌, arith, inl, inr, ◌⊎◌, ◌++◌}
-use Rattle.enf_formula.proofs.Vocabulary.{⊎_elim, Contains-append_cases, Contains-append_right, Contains-append_left}
-use Rattle.enf_formula.proofs.Vocabulary.{sorted_head, sorted_tail, tied_itself, AllByRecursion, IsScopedFormula}
-use Rattle.enf_formula.proofs.Vocabulary.{IsClosed, IsTermInScope, AreTermsInScope, AreNewVariables, BindsFresh}
-use Rattle.enf_formula.proofs.Vocabulary.{Formula, AreFreeVariables, True, False, Atom, Equal, Less, AtMost, Not, And}
-use Rattle.enf_formula.proofs.Vocabulary.{Or, Implies, Exists, Forall, Prev, Next, Once, Historically, Since}
-use Rattle.enf_formula.proofs.Vocabulary.{Eventually, Always, Until, IsFree}
+use Rattle.enf_formula.proofs.Vocabulary.{same_rising, variable_cmp_total, Term, Var, VarId, variable_cmp, Contains, subst, zero, suc, [], ◌∷◌, arith, inl, inr, ◌⊎◌, ◌++◌, ⊎_elim}
+use Rattle.enf_formula.proofs.Vocabulary.{Contains-append_cases, Contains-append_right, Contains-append_left, sorted_head, sorted_tail, tied_itself, AllByRecursion, IsScopedFormula, IsClosed}
+use Rattle.enf_formula.proofs.Vocabulary.{IsTermInScope, AreTermsInScope, AreNewVariables, BindsFresh, Formula, AreFreeVariables, True, False, Atom, Equal, Less, AtMost, Not, And, Or, Implies, Exists}
+use Rattle.enf_formula.proofs.Vocabulary.{Forall, Prev, Next, Once, Historically, Since, Eventually, Always, Until, IsFree}
 use Rattle.std.specs.Prelude.{◌≡◌, List}
 use Rattle.std.specs.declared.cmp.Ordering.TheVariants as ordering
 

@@ -1,15 +1,11 @@
 -- The words in which the proofs of this crate speak: those of std, of the crates below and of its own specs.
-pub use Rattle.std.proofs.Common.{Bool, Contains, Err, IfOk, IsTrue, List, None, Ok, OnOk, Option, Result, Some, [], ap}
-pub use Rattle.std.proofs.Common.{arith, cond, false, get_or, inl, inr, length, lit<, lit≤, pos, refl, slice_index_or}
-pub use Rattle.std.proofs.Common.{subst, suc, sym, take, true, true≢false, zero, ℕ, ℤ, ⊎_elim, ◌++◌}
-pub use Rattle.std.proofs.Common.{◌+◌, ◌-◌, ◌<ℤ◌, ◌<◌, ◌∙◌, ◌∷◌, ◌≡◌, ◌≤ℤ◌}
-pub use Rattle.std.proofs.Common.{◌≤◌, ◌⊎◌}
+pub use Rattle.std.proofs.Common.{Bool, Contains, Err, IfOk, IsTrue, List, None, Ok, OnOk, Option, Result, Some, [], ap, arith, cond, false, get_or, inl, inr, length, lit<, lit≤, pos, refl}
+pub use Rattle.std.proofs.Common.{slice_index_or, subst, suc, sym, take, true, true≢false, zero, ℕ, ℤ, ⊎_elim, ◌++◌, ◌+◌, ◌-◌, ◌<ℤ◌, ◌<◌, ◌∙◌, ◌∷◌, ◌≡◌, ◌≤ℤ◌, ◌≤◌, ◌⊎◌}
 pub use Rattle.std.proofs.lemmas.Bool.{cases_lt}
 pub use Rattle.std.proofs.lemmas.Bool.Decides.{Decides-by_or, Decides-eqb, Decides-like, not_from_Decides}
 pub use Rattle.std.proofs.lemmas.Int.{by_lt_z}
 pub use Rattle.std.proofs.lemmas.List.{take_all, take_more}
-pub use Rattle.std.proofs.lemmas.List.Elements.{Contains-append_cases, Contains-append_left, Contains-append_right}
-pub use Rattle.std.proofs.lemmas.List.Elements.{Contains-push, Decides-contains}
+pub use Rattle.std.proofs.lemmas.List.Elements.{Contains-append_cases, Contains-append_left, Contains-append_right, Contains-push, Decides-contains}
 pub use Rattle.std.proofs.lemmas.Map.Keys.{sorted_head, sorted_tail}
 pub use Rattle.std.proofs.lemmas.Map.Views.{btree_set_contains_iff, tells_apart}
 pub use Rattle.std.proofs.lemmas.Result.{on_ok_weaker}
@@ -39,21 +35,14 @@ pub use Rattle.enf_data.specs.declared.values.Value.TheVariants.{Num, Text}
 pub use Rattle.enf_data.specs.machine.ValueTests.{value_eq-Decides}
 pub use Rattle.enf_data.specs.meaning.Data.{step_at}
 pub use Rattle.enf_data.specs.meaning.Membership.{IsIn, IsUpTo}
-pub use Rattle.enf_data.specs.meaning.Valuations.{Valuation, no_values, onto_values, value_at, value_of_term}
-pub use Rattle.enf_data.specs.meaning.Valuations.{values_of_terms, variable_cmp, with_values}
+pub use Rattle.enf_data.specs.meaning.Valuations.{Valuation, no_values, onto_values, value_at, value_of_term, values_of_terms, variable_cmp, with_values}
 pub use Rattle.enf_data.specs.meaning.Values.{event_eq, value_eq}
-pub use Rattle.enf_formula.specs.machine.Agreement.{AgreeOnFreeVariables, AgreeUpTo, HaveSameNamedEvents}
-pub use Rattle.enf_formula.specs.machine.Agreement.{names_in_formula}
-pub use Rattle.enf_formula.specs.machine.Cases.{broken_before, event_p, event_p_of, event_q, event_q_of, formula_p_x}
-pub use Rattle.enf_formula.specs.machine.Cases.{formula_q_x, interval_between, name_p, name_q, p_1_q_1, p_1_q_1_p_a}
-pub use Rattle.enf_formula.specs.machine.Cases.{p_1_q_2, two_steps, variable_x}
+pub use Rattle.enf_formula.specs.machine.Agreement.{AgreeOnFreeVariables, AgreeUpTo, HaveSameNamedEvents, names_in_formula}
+pub use Rattle.enf_formula.specs.machine.Cases.{broken_before, event_p, event_p_of, event_q, event_q_of, formula_p_x, formula_q_x, interval_between, name_p, name_q, p_1_q_1, p_1_q_1_p_a, p_1_q_2}
+pub use Rattle.enf_formula.specs.machine.Cases.{two_steps, variable_x}
 pub use Rattle.enf_formula.specs.machine.FormulaViews.{tree_of}
 pub use Rattle.enf_formula.specs.machine.Laws.{FreeVariablesDecide, IsStable, NamesDecide, PastDecides}
 pub use Rattle.enf_formula.specs.machine.Variables.{AddsVariables, IsClosed, IsScopedFormula}
-pub use Rattle.enf_formula.specs.meaning.FormulaShape.{AreNewVariables, AreTermsInScope, BindsFresh, IsTermInScope}
-pub use Rattle.enf_formula.specs.meaning.FormulaShape.{is_past}
-pub use Rattle.enf_formula.specs.meaning.Satisfaction.{Always, And, AreFreeVariables, AreNumbersInOrder, AreSameValues}
-pub use Rattle.enf_formula.specs.meaning.Satisfaction.{AtMost, Atom, Equal, Eventually, Exists, False, Forall, Formula}
-pub use Rattle.enf_formula.specs.meaning.Satisfaction.{HeldSince, Historically, HoldsAnywhere, HoldsUntil, Implies}
-pub use Rattle.enf_formula.specs.meaning.Satisfaction.{IsEventAmong, IsFree, Less, Next, Not, Once, Or, Prev, Sat}
-pub use Rattle.enf_formula.specs.meaning.Satisfaction.{Since, True, Until, elapsed}
+pub use Rattle.enf_formula.specs.machine.FormulaShape.{AreNewVariables, AreTermsInScope, BindsFresh, IsTermInScope, is_past}
+pub use Rattle.enf_formula.specs.meaning.Satisfaction.{Always, And, AreFreeVariables, AreNumbersInOrder, AreSameValues, AtMost, Atom, Equal, Eventually, Exists, False, Forall, Formula, HeldSince}
+pub use Rattle.enf_formula.specs.meaning.Satisfaction.{Historically, HoldsAnywhere, HoldsUntil, Implies, IsEventAmong, IsFree, Less, Next, Not, Once, Or, Prev, Sat, Since, True, Until, elapsed}

@@ -3,3 +3,4 @@ pub mod Cases
 pub mod FormulaViews
 pub mod Laws
 pub mod Variables
+pub mod FormulaShape

@@ -1,2 +1,1 @@
-pub mod FormulaShape
 pub mod Satisfaction

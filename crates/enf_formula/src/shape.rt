@@ -1,7 +1,7 @@
 //! What can be read off a formula: its place, its size, whether it looks ahead.
 ghost use Rattle.std.specs.Prelude.{◌≡◌, ◌↔◌, ◌<◌, ◌^◌, IsTrue};
 ghost use Rattle.enf_formula.specs.machine.FormulaViews.{tree_of};
-ghost use Rattle.enf_formula.specs.meaning.FormulaShape.{is_past as looks_back, formula_size};
+ghost use Rattle.enf_formula.specs.machine.FormulaShape.{is_past as looks_back, formula_size};
 ghost use Rattle.enf_formula.specs.meaning.Satisfaction.{formula_place};
 
 use crate::formulas::Formula;

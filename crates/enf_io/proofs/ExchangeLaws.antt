@@ -1,6 +1,5 @@
 -- The laws of exchanges that grow, and of what calls alone exchanged.
-use Rattle.std.proofs.Common.{◌-◌, arith, length-append, refl, sym, append-nil, ◌++◌, ap, ◌∙◌}
-use Rattle.std.proofs.Common.{append_assoc, ◌∷◌, ◌≡◌, subst, drop, map, length-drop, take}
+use Rattle.std.proofs.Common.{◌-◌, arith, length-append, refl, sym, append-nil, ◌++◌, ap, ◌∙◌, append_assoc, ◌∷◌, ◌≡◌, subst, drop, map, length-drop, take}
 use Rattle.std.proofs.Math.Seq.{drop-length, drop-append_seam, take-add, take-length}
 use Rattle.std.proofs.lemmas.List.{drop-append-le, map-append, drop-drop, take-append-le}
 use Rattle.std.proofs.lemmas.List.Elements.{All-weaker, All-nil, All-append, All-push, All-map, All-same}

@@ -1,7 +1,6 @@
 -- The files that a map keeps, read by name, and what a miss does to the counts.
-use Rattle.std.proofs.Common.{◌≡◌, ◌≢◌, ℕ, ◌+◌, ◌≤◌, ◌==◌, lit≤, length-take, count_by}
-use Rattle.std.proofs.Common.{List, [], ◌∷◌, ◌++◌, Bool, true, false, cond, map, take, min, length, refl, sym}
-use Rattle.std.proofs.Common.{ap, ◌∙◌, arith, Vec, Global, String}
+use Rattle.std.proofs.Common.{◌≡◌, ◌≢◌, ℕ, ◌+◌, ◌≤◌, ◌==◌, lit≤, length-take, count_by, List, [], ◌∷◌, ◌++◌, Bool, true, false, cond, map, take, min, length, refl, sym, ap, ◌∙◌, arith, Vec, Global}
+use Rattle.std.proofs.Common.{String}
 use Rattle.std.specs.Prelude.{Option, Some, None, Ok, Err, string_bytes}
 use Rattle.std.specs.Option.{option_map}
 use Rattle.std.specs.String.{string_cmp}

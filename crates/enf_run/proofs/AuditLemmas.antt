@@ -1,21 +1,14 @@
 -- How far the audit of a log has come, one turn more, and how it ends.
-use Rattle.enf_run.proofs.Vocabulary.{◌≡◌, ℕ, ◌+◌, ◌*◌, ◌-◌, ◌<◌, ◌≤◌, List, []}
-use Rattle.enf_run.proofs.Vocabulary.{◌∷◌, ◌++◌, length, length-append, Option, None, Some, inl, inr, refl}
-use Rattle.enf_run.proofs.Vocabulary.{sym, ap, subst, ◌∙◌, arith, append-nil, length_push, map-append, Stream}
-use Rattle.enf_run.proofs.Vocabulary.{Step, StoredTyped, typed_of, SpellsRecords-append, SpellsRecords-blanks}
-use Rattle.enf_run.proofs.Vocabulary.{SpellsRecords-none, SpellsRecords-push, BeginsWithRecord-shorter, behind-shorter}
-use Rattle.enf_run.proofs.Vocabulary.{BeginsWithRecord, behind_blanks, Reader, LogItem, TraceLog, NameEntry, Auditing}
-use Rattle.enf_run.proofs.Vocabulary.{Audits, audited_rules, IsVerdict, formulas_for, NeverFall, Record, StepRecord}
-use Rattle.enf_run.proofs.Vocabulary.{Tick, clock_after, recorded, time_of, AnswersAudit, AnswersAuditTurn}
-use Rattle.enf_run.proofs.Vocabulary.{AnswersRecord, AuditsLater, AuditsOne, LeavesCounts, LosesAuditTurn, AuditorTakes}
-use Rattle.enf_run.proofs.Vocabulary.{WaitsAudit, HasAudited, GaveNothing, LosesLog, trace_log, Exchanged, AnswersRead}
-use Rattle.enf_run.proofs.Vocabulary.{RefusesNext, TakesBytes, reads_in, most_log_bytes, record_of, records_of}
-use Rattle.enf_run.proofs.Vocabulary.{AcceptsRecords, Intake, Verdict}
+use Rattle.enf_run.proofs.Vocabulary.{◌≡◌, ℕ, ◌+◌, ◌*◌, ◌-◌, ◌<◌, ◌≤◌, List, [], ◌∷◌, ◌++◌, length, length-append, Option, None, Some, inl, inr, refl, sym, ap, subst, ◌∙◌, arith, append-nil}
+use Rattle.enf_run.proofs.Vocabulary.{length_push, map-append, Stream, Step, StoredTyped, typed_of, SpellsRecords-append, SpellsRecords-blanks, SpellsRecords-none, SpellsRecords-push}
+use Rattle.enf_run.proofs.Vocabulary.{BeginsWithRecord-shorter, behind-shorter, BeginsWithRecord, behind_blanks, Reader, LogItem, TraceLog, NameEntry, Auditing, Audits, audited_rules, IsVerdict}
+use Rattle.enf_run.proofs.Vocabulary.{formulas_for, NeverFall, Record, StepRecord, Tick, clock_after, recorded, time_of, AnswersAudit, AnswersAuditTurn, AnswersRecord, AuditsLater, AuditsOne}
+use Rattle.enf_run.proofs.Vocabulary.{LeavesCounts, LosesAuditTurn, AuditorTakes, WaitsAudit, HasAudited, GaveNothing, LosesLog, trace_log, Exchanged, AnswersRead, RefusesNext, TakesBytes, reads_in}
+use Rattle.enf_run.proofs.Vocabulary.{most_log_bytes, record_of, records_of, AcceptsRecords, Intake, Verdict}
 use Rattle.trace_audit.specs.declared.verdicts.Verdict.{Verdict as Found}
 use Rattle.enf_run.specs.declared.audits.Audit.{Audit}
 use Rattle.enf_run.specs.declared.intake.Next.{Next}
-use Rattle.enf_run.proofs.IntakeLemmas.{IsBehindBlanks, IsFar, ends_intake, exchanged_more, far_ended, far_none}
-use Rattle.enf_run.proofs.IntakeLemmas.{far_took, takes_more}
+use Rattle.enf_run.proofs.IntakeLemmas.{IsBehindBlanks, IsFar, ends_intake, exchanged_more, far_ended, far_none, far_took, takes_more}
 use Rattle.log_stream.specs.declared.items.LogItem.TheVariants as items
 use Rattle.enf_run.specs.declared.intake.Next.TheVariants as nexts
 

@@ -1,15 +1,10 @@
 -- Over the devices that never fail, with the files that the words name, no fault comes.
-use Rattle.enf_run.proofs.Vocabulary.{◌≡◌, ◌≢◌, ℕ, List, [], ◌∷◌, ◌++◌, Option, None, Some, codes, refl, sym, ap, subst}
-use Rattle.enf_run.proofs.Vocabulary.{◌∙◌, arith, inl, inr, CalmContents, calm_files, contents_under, one_more}
-use Rattle.enf_run.proofs.Vocabulary.{FileView, NoFile, NameEntry, Call, FailsToRead, HasWriteFault, seen_of, Stream}
-use Rattle.enf_run.proofs.Vocabulary.{Form, Audit, Check, Drill, Enforce, Generate, NoForm, AuditRefused, CheckRefused}
-use Rattle.enf_run.proofs.Vocabulary.{EnforceRefused, MissesState, RunOutcome, OutcomeOf, refusal_status, MissesFile}
-use Rattle.enf_run.proofs.Vocabulary.{NamesEnforce, IsAuditForm, IsCheckForm, NamesFiles, NamesFilesAlone, NamesResumed}
-use Rattle.enf_run.proofs.Vocabulary.{States, option_words, state_words, states_of, MOST_FILE_BYTES, MOST_STATE_BYTES}
-use Rattle.enf_run.proofs.Vocabulary.{Refusal, AreBytesUnder, SpellsSignature}
+use Rattle.enf_run.proofs.Vocabulary.{◌≡◌, ◌≢◌, ℕ, List, [], ◌∷◌, ◌++◌, Option, None, Some, codes, refl, sym, ap, subst, ◌∙◌, arith, inl, inr, CalmContents, calm_files, contents_under, one_more}
+use Rattle.enf_run.proofs.Vocabulary.{FileView, NoFile, NameEntry, Call, FailsToRead, HasWriteFault, seen_of, Stream, Form, Audit, Check, Drill, Enforce, Generate, NoForm, AuditRefused, CheckRefused}
+use Rattle.enf_run.proofs.Vocabulary.{EnforceRefused, MissesState, RunOutcome, OutcomeOf, refusal_status, MissesFile, NamesEnforce, IsAuditForm, IsCheckForm, NamesFiles, NamesFilesAlone, NamesResumed}
+use Rattle.enf_run.proofs.Vocabulary.{States, option_words, state_words, states_of, MOST_FILE_BYTES, MOST_STATE_BYTES, Refusal, AreBytesUnder, SpellsSignature}
 use Rattle.std.proofs.Common.{◌⊎◌}
-use Rattle.enf_run.proofs.RequestLemmas.{drills_unrefused, generates_unrefused, words_alone, IsNaming, audit_names}
-use Rattle.enf_run.proofs.RequestLemmas.{check_names, enforces_names, one_form}
+use Rattle.enf_run.proofs.RequestLemmas.{drills_unrefused, generates_unrefused, words_alone, IsNaming, audit_names, check_names, enforces_names, one_form}
 use Rattle.enf_run.specs.declared.endings.Cut.TheVariants as cuts
 use Rattle.enf_run.specs.declared.refusals.Refusal.TheVariants as refusals
 use Rattle.enf_run.specs.declared.refusals.Status.TheVariants as statuses

@@ -1,7 +1,5 @@
 -- Parts of a text, and lines that are cut.
-use Rattle.enf_run.proofs.Vocabulary.{ℕ, ◌<◌, List, [], ◌∷◌, length, take, drop, sym, ap, arith}
-use Rattle.enf_run.proofs.Vocabulary.{length-drop, refl, take-append-drop, ActedStep, out_step, line_of, OutStep}
-use Rattle.enf_run.proofs.Vocabulary.{IsPart, IsCutLine}
+use Rattle.enf_run.proofs.Vocabulary.{ℕ, ◌<◌, List, [], ◌∷◌, length, take, drop, sym, ap, arith, length-drop, refl, take-append-drop, ActedStep, out_step, line_of, OutStep, IsPart, IsCutLine}
 
 -- of a text with something in it, nothing is a part
 pub part_none : (text : List ℕ) → 0 < length text → IsPart [] text

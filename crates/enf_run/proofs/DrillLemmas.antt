@@ -1,17 +1,11 @@
 -- How far a drill has come, one step more, and what is found at its end.
-use Rattle.enf_run.proofs.Vocabulary.{◌≡◌, ℕ, zero, suc, ◌+◌, ◌*◌, ◌^◌, ◌≤◌, List, []}
-use Rattle.enf_run.proofs.Vocabulary.{◌∷◌, ◌++◌, length, map, refl, sym, ap, subst, ◌∙◌, inl, arith}
-use Rattle.enf_run.proofs.Vocabulary.{cond, false, IfOk, Result, Ok, Err, Option, None, Some, sum_by-append, ActedStep}
-use Rattle.enf_run.proofs.Vocabulary.{is_inserted, steps_of, FollowsDrain, AreDistinct, Formula, HasNoRepeats, Step}
-use Rattle.enf_run.proofs.Vocabulary.{StoredTyped, typed_of, Course, Enforcing, policy_plans, enforcer_plans}
-use Rattle.enf_run.proofs.Vocabulary.{acted_steps, FollowsToEnd, policy_operators as stored_operators, Gave, Stream}
-use Rattle.enf_run.proofs.Vocabulary.{WritesAll, WriteRefusal, AnswersStep, Progress, drawn_events, event_count}
-use Rattle.enf_run.proofs.Vocabulary.{first_draw, generated, generated_records, generated_step, sample_entries}
-use Rattle.enf_run.proofs.Vocabulary.{sample_rules, early, records_more, BoundFormula, tree_in, all_operators}
-use Rattle.enf_run.proofs.Vocabulary.{guards_of, IsSnapshotOf, Record, StepRecord, clock_after, TallyAtMost, CutsDrill}
-use Rattle.enf_run.proofs.Vocabulary.{FinishesDrill, IsNewDrill, TakesCounted, tally_with, SampleDrillFinds}
-use Rattle.enf_run.proofs.Vocabulary.{SaysDrillLine, causes_in, drill_line, is_system, guard_operators, suppressions_in}
-use Rattle.enf_run.proofs.Vocabulary.{tally_of, cut_after, all_formulas, EnforcerLaws, AddsPart, Drilled, Tally}
+use Rattle.enf_run.proofs.Vocabulary.{◌≡◌, ℕ, zero, suc, ◌+◌, ◌*◌, ◌^◌, ◌≤◌, List, [], ◌∷◌, ◌++◌, length, map, refl, sym, ap, subst, ◌∙◌, inl, arith, cond, false, IfOk, Result, Ok, Err, Option, None}
+use Rattle.enf_run.proofs.Vocabulary.{Some, sum_by-append, ActedStep, is_inserted, steps_of, FollowsDrain, AreDistinct, Formula, HasNoRepeats, Step, StoredTyped, typed_of, Course, Enforcing}
+use Rattle.enf_run.proofs.Vocabulary.{policy_plans, enforcer_plans, acted_steps, FollowsToEnd, policy_operators as stored_operators, Gave, Stream, WritesAll, WriteRefusal, AnswersStep, Progress}
+use Rattle.enf_run.proofs.Vocabulary.{drawn_events, event_count, first_draw, generated, generated_records, generated_step, sample_entries, sample_rules, early, records_more, BoundFormula, tree_in}
+use Rattle.enf_run.proofs.Vocabulary.{all_operators, guards_of, IsSnapshotOf, Record, StepRecord, clock_after, TallyAtMost, CutsDrill, FinishesDrill, IsNewDrill, TakesCounted, tally_with}
+use Rattle.enf_run.proofs.Vocabulary.{SampleDrillFinds, SaysDrillLine, causes_in, drill_line, is_system, guard_operators, suppressions_in, tally_of, cut_after, all_formulas, EnforcerLaws, AddsPart}
+use Rattle.enf_run.proofs.Vocabulary.{Drilled, Tally}
 use Rattle.enf_run.specs.declared.drills.Drill.{Drill}
 use Rattle.enf_run.proofs.LogLemmas.{put_all_distinct}
 use Rattle.enf_run.proofs.LogProgressLemmas.{none_else}
@@ -107,7 +101,7 @@ module _ (laws : EnforcerLaws) (start : ℕ) (drill : Drill) (new : IsNewDrill d
       let few = laws.few now.enforcer (StepRecord step) t.made after.enforcer t.takes in
       let moved = t.takes.goes_on in
       let time : step.time ≤ 7 * (made + 1) = omega (arith, ap (λ (s : Step). s.time) same, early start (suc made)) in
-      let course = laws.goes_on first [] (generated_records start made) h.out now.enforcer (StepRecord step) t.made after.enforcer h.course t.takes in
+      let course = laws.goes_on first [] (generated_records start made) h.out now.enforcer (StepRecord step) t.made after.enforcer h.course t.takes.in_time t.takes.goes_on t.takes.stands t.takes.changed t.takes.decided in
       record {
         out = h.out ++ acted_steps t.made.steps;
         course = subst (λ (records : List Record). Course first [] records (h.out ++ acted_steps t.made.steps) after.enforcer)

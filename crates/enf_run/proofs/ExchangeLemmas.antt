@@ -1,14 +1,9 @@
 -- What is taken and given, one call after another.
-use Rattle.enf_run.proofs.Vocabulary.{◌≡◌, ℕ, ◌+◌, ◌<◌, ◌≤◌, List, [], ◌∷◌, ◌++◌}
-use Rattle.enf_run.proofs.Vocabulary.{length, take, map, refl, sym, ap, subst, ◌∙◌, append_assoc, length-append}
-use Rattle.enf_run.proofs.Vocabulary.{Option, None, Some, arith, option_map, append-nil, map-append, All-nil, Exchange}
-use Rattle.enf_run.proofs.Vocabulary.{input_left, OfCalls, taken_bytes, Gave, with_given, GrewWhereTold, TookNothing}
-use Rattle.enf_run.proofs.Vocabulary.{Took, with_read_mark, with_taken, MarksWithin, AtEachMark-given, AtEachMark-mark}
-use Rattle.enf_run.proofs.Vocabulary.{GrewWhereTold-gave, GrewWhereTold-marked, GrewWhereTold-refl, GrewWhereTold-took}
-use Rattle.enf_run.proofs.Vocabulary.{GrewWhereTold-trans, OfCalls-MarksWithin, OfCalls-gave, OfCalls-marked}
-use Rattle.enf_run.proofs.Vocabulary.{OfCalls-none, OfCalls-took, OfCalls-weaker, taken_bytes-taken, AreInPieces}
-use Rattle.enf_run.proofs.Vocabulary.{Exchanged, IsReadBegun, IsExchange, CountsRise, taken_counts, most_read_bytes}
-use Rattle.enf_run.proofs.Vocabulary.{most_log_bytes}
+use Rattle.enf_run.proofs.Vocabulary.{◌≡◌, ℕ, ◌+◌, ◌<◌, ◌≤◌, List, [], ◌∷◌, ◌++◌, length, take, map, refl, sym, ap, subst, ◌∙◌, append_assoc, length-append, Option, None, Some, arith, option_map}
+use Rattle.enf_run.proofs.Vocabulary.{append-nil, map-append, All-nil, Exchange, input_left, OfCalls, taken_bytes, Gave, with_given, GrewWhereTold, TookNothing, Took, with_read_mark, with_taken}
+use Rattle.enf_run.proofs.Vocabulary.{MarksWithin, AtEachMark-given, AtEachMark-mark, GrewWhereTold-gave, GrewWhereTold-marked, GrewWhereTold-refl, GrewWhereTold-took, GrewWhereTold-trans}
+use Rattle.enf_run.proofs.Vocabulary.{OfCalls-MarksWithin, OfCalls-gave, OfCalls-marked, OfCalls-none, OfCalls-took, OfCalls-weaker, taken_bytes-taken, AreInPieces, Exchanged, IsReadBegun, IsExchange}
+use Rattle.enf_run.proofs.Vocabulary.{CountsRise, taken_counts, most_read_bytes, most_log_bytes}
 
 pub gave_none : (a : Option Exchange) → Gave [] a a
 gave_none None = refl

@@ -1,10 +1,7 @@
 -- What a read of a file tells, where it asks for one byte more than the file may have, and the formulas of a policy.
-use Rattle.enf_run.proofs.Vocabulary.{◌≡◌, ℕ, ◌+◌, ◌<◌, ◌≤◌, List, [], ◌∷◌, length, map}
-use Rattle.enf_run.proofs.Vocabulary.{refl, ap, ◌∙◌, arith, length-take, Option, None, Some, IfSome, Result, Err}
-use Rattle.enf_run.proofs.Vocabulary.{take_all, Vec, Global, Formula, tree_of, stored_rule_formulas as read_formulas}
-use Rattle.enf_run.proofs.Vocabulary.{rule_of, Contents, NoFile, FileBytes, FileView, GivesContents, faults_after}
-use Rattle.enf_run.proofs.Vocabulary.{CountsFor, ReadsFile, IoRefusal, Failed, NoMemory, AreBytesHeld, IsLongFile}
-use Rattle.enf_run.proofs.Vocabulary.{IsFileNotRead, IsShortFile, all_formulas}
+use Rattle.enf_run.proofs.Vocabulary.{◌≡◌, ℕ, ◌+◌, ◌<◌, ◌≤◌, List, [], ◌∷◌, length, map, refl, ap, ◌∙◌, arith, length-take, Option, None, Some, IfSome, Result, Err, take_all, Vec, Global, Formula}
+use Rattle.enf_run.proofs.Vocabulary.{tree_of, stored_rule_formulas as read_formulas, rule_of, Contents, NoFile, FileBytes, FileView, GivesContents, faults_after, CountsFor, ReadsFile, IoRefusal}
+use Rattle.enf_run.proofs.Vocabulary.{Failed, NoMemory, AreBytesHeld, IsLongFile, IsFileNotRead, IsShortFile, all_formulas}
 use Rattle.formula_reader.specs.declared.policies.Rule.{Rule}
 
 -- the formulas of rules are those of the rules as they were read

@@ -1,10 +1,7 @@
 -- A generated log that is given in pieces.
-use Rattle.enf_run.proofs.Vocabulary.{◌≡◌, ℕ, ◌+◌, ◌<◌, ◌≤◌, List, [], ◌∷◌, ◌++◌}
-use Rattle.enf_run.proofs.Vocabulary.{length, take, drop, sym, inl, ap, subst, ◌∙◌, append_assoc, length-append}
-use Rattle.enf_run.proofs.Vocabulary.{length-drop, arith, Option, take-append-drop, Exchange, Gave, written_before}
-use Rattle.enf_run.proofs.Vocabulary.{WriteRefusal, generated_line, generated_step, generated_text, sample_entries}
-use Rattle.enf_run.proofs.Vocabulary.{text_begins, text_more, spelled_step, entry_names, System, cut_after, CutsText}
-use Rattle.enf_run.proofs.Vocabulary.{AddsPart}
+use Rattle.enf_run.proofs.Vocabulary.{◌≡◌, ℕ, ◌+◌, ◌<◌, ◌≤◌, List, [], ◌∷◌, ◌++◌, length, take, drop, sym, inl, ap, subst, ◌∙◌, append_assoc, length-append, length-drop, arith, Option}
+use Rattle.enf_run.proofs.Vocabulary.{take-append-drop, Exchange, Gave, written_before, WriteRefusal, generated_line, generated_step, generated_text, sample_entries, text_begins, text_more}
+use Rattle.enf_run.proofs.Vocabulary.{spelled_step, entry_names, System, cut_after, CutsText, AddsPart}
 use Rattle.std.proofs.Common.{append-nil}
 use Rattle.enf_run.proofs.GatheredPieces.{IsGathered}
 use Rattle.enf_run.proofs.ExchangeLemmas.{gave_more}

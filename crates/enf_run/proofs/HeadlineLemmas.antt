@@ -1,21 +1,13 @@
 -- The headline, from what holds at each status.
-use Rattle.enf_run.proofs.Vocabulary.{◌≡◌, ◌≢◌, ℕ, ◌+◌, ◌^◌, ◌<◌, List, [], ◌++◌, refl, sym, ap, subst, ◌∙◌, length}
-use Rattle.enf_run.proofs.Vocabulary.{drop, take, get_or, inl, inr, Option, None, Some, option_map, append-nil, drop_at}
-use Rattle.enf_run.proofs.Vocabulary.{Contents, FileBytes, with_contents, Exchange, AtEachMark, OfCalls, taken_bytes}
-use Rattle.enf_run.proofs.Vocabulary.{Stream, Gave, with_given, WritesFile, OfCalls-none, OfCalls-weaker, All-nil}
-use Rattle.enf_run.proofs.Vocabulary.{AcceptedIsNotRefused, out_steps, trace_of, Start, start_behind, Rule}
-use Rattle.enf_run.proofs.Vocabulary.{OneSignatureAnswer, NameEntry, BeginsWithRecord, RefusesFront as RefusesLog}
-use Rattle.enf_run.proofs.Vocabulary.{SpellsRecords, LogItem, LogMode, Input, UpToDate, LogSetting, enforced_from, Call}
-use Rattle.enf_run.proofs.Vocabulary.{LeavesGate, Exchanged, IsExchange, LogEndsWithStatus, HasTakenLog, Headline}
-use Rattle.enf_run.proofs.Vocabulary.{IsLineFront, IsKeptToEnd, IsKeptSoFar, IsRestRefusedFor, IsKeptAtSave}
-use Rattle.enf_run.proofs.Vocabulary.{action_lines, text_of_log_refusal, records_of, IsAskedRun, IsReadyState}
-use Rattle.enf_run.proofs.Vocabulary.{IsStateText, StartsAt, States, CutsRun, PausesLog, RunsLog, taken_log_of}
-use Rattle.enf_run.proofs.Vocabulary.{LogEndsAs, IsRestRefusedAs, TakenLog, clock_behind, Enforce, AsksToEnforce}
-use Rattle.enf_run.proofs.Vocabulary.{BreaksOffLog, CutsLog, EnforceLacks, EnforceOutcome, EnforceRefused, EnforcesLog}
-use Rattle.enf_run.proofs.Vocabulary.{FailsToWrite, IsEnforceDone, PausesRun, RefusesRecord, WhereItStarts, WritesRun}
-use Rattle.enf_run.proofs.Vocabulary.{RunOutcome, refusal_status, text_of_record_refusal, text_of_refusal, IsReported}
-use Rattle.enf_run.proofs.Vocabulary.{RecordRefusal, Refusal, Seen, seen_of, AsksToldPolicy, TellBytes, IsEnforceForm}
-use Rattle.enf_run.proofs.Vocabulary.{Cut, Judged, Verdict, Status, answer_of_rules}
+use Rattle.enf_run.proofs.Vocabulary.{◌≡◌, ◌≢◌, ℕ, ◌+◌, ◌^◌, ◌<◌, List, [], ◌++◌, refl, sym, ap, subst, ◌∙◌, length, drop, take, get_or, inl, inr, Option, None, Some, option_map, append-nil, drop_at}
+use Rattle.enf_run.proofs.Vocabulary.{Contents, FileBytes, with_contents, Exchange, AtEachMark, OfCalls, taken_bytes, Stream, Gave, with_given, WritesFile, OfCalls-none, OfCalls-weaker, All-nil}
+use Rattle.enf_run.proofs.Vocabulary.{AcceptedIsNotRefused, out_steps, trace_of, Start, start_behind, Rule, OneSignatureAnswer, NameEntry, BeginsWithRecord, RefusesFront as RefusesLog, SpellsRecords}
+use Rattle.enf_run.proofs.Vocabulary.{LogItem, LogMode, Input, UpToDate, LogSetting, enforced_from, Call, LeavesGate, Exchanged, IsExchange, LogEndsWithStatus, HasTakenLog, Headline, IsLineFront}
+use Rattle.enf_run.proofs.Vocabulary.{IsKeptToEnd, IsKeptSoFar, IsRestRefusedFor, IsKeptAtSave, action_lines, text_of_log_refusal, records_of, IsAskedRun, IsReadyState, IsStateText, StartsAt, States}
+use Rattle.enf_run.proofs.Vocabulary.{CutsRun, PausesLog, RunsLog, taken_log_of, LogEndsAs, IsRestRefusedAs, TakenLog, clock_behind, Enforce, AsksToEnforce, BreaksOffLog, CutsLog, EnforceLacks}
+use Rattle.enf_run.proofs.Vocabulary.{EnforceOutcome, EnforceRefused, EnforcesLog, FailsToWrite, IsEnforceDone, PausesRun, RefusesRecord, WhereItStarts, WritesRun, RunOutcome, refusal_status}
+use Rattle.enf_run.proofs.Vocabulary.{text_of_record_refusal, text_of_refusal, IsReported, RecordRefusal, Refusal, Seen, seen_of, AsksToldPolicy, TellBytes, IsEnforceForm, Cut, Judged, Verdict}
+use Rattle.enf_run.proofs.Vocabulary.{Status, answer_of_rules}
 use Rattle.std.specs.Prelude.{codes, decimal, Ok}
 use Rattle.enf_run.proofs.RequestLemmas.{OneTextAnswer, StartsTold, at_told, outcome_at, same_sources, same_states}
 use Rattle.enf_run.proofs.ExchangeLemmas.{gave_more, gave_none}

@@ -1,17 +1,11 @@
 -- The intake of a log: what its reader makes of the rest, turns in which no record is taken, and how far it has come.
-use Rattle.enf_run.proofs.Vocabulary.{◌≡◌, ◌≢◌, ℕ, ◌+◌, ◌-◌, ◌<◌, ◌≤◌, List, []}
-use Rattle.enf_run.proofs.Vocabulary.{◌++◌, length, length-append, refl, sym, ap, subst, ◌∙◌, inl, inr}
-use Rattle.enf_run.proofs.Vocabulary.{Option, None, Some, Ok, Err, arith, option_map, one_more, Exchange, IsAtEnd}
-use Rattle.enf_run.proofs.Vocabulary.{Stream, Gave, with_given, IsPending-blanks, SpellsRecords-blanks, end_stays}
-use Rattle.enf_run.proofs.Vocabulary.{behind-shorter, BeginsWithRecord, HasRecord, IsPending, IsTruncated, RefusesFront}
-use Rattle.enf_run.proofs.Vocabulary.{behind_blanks, Reader, ReadsNext, RefusesOnce, fed, Item, LogItem, LogMode}
-use Rattle.enf_run.proofs.Vocabulary.{LogRefusal, Outside, NameEntry, clock_after, Exchanged, IsReadBegun, EndsIntake}
-use Rattle.enf_run.proofs.Vocabulary.{EndsTurn, GetsPiece, IsStreamUntouched, ReadMeetsEnd, RefusesNext, TakesBytes}
-use Rattle.enf_run.proofs.Vocabulary.{TurnTakesPiece, reads_in, most_log_bytes, IsTakenToEnd, records_of, LogEndsAs}
-use Rattle.enf_run.proofs.Vocabulary.{IsRestRefusedAs, LogReading, TakenLog, taken_log, Intake, Verdict, RecordRefusal}
-use Rattle.enf_run.proofs.ExchangeLemmas.{IsSteady, begun_gave, begun_marked, begun_took, exchanged_ended}
-use Rattle.enf_run.proofs.ExchangeLemmas.{exchanged_gave, exchanged_marked, exchanged_none, exchanged_took, steady_gave}
-use Rattle.enf_run.proofs.ExchangeLemmas.{steady_none, steady_took}
+use Rattle.enf_run.proofs.Vocabulary.{◌≡◌, ◌≢◌, ℕ, ◌+◌, ◌-◌, ◌<◌, ◌≤◌, List, [], ◌++◌, length, length-append, refl, sym, ap, subst, ◌∙◌, inl, inr, Option, None, Some, Ok, Err, arith, option_map}
+use Rattle.enf_run.proofs.Vocabulary.{one_more, Exchange, IsAtEnd, Stream, Gave, with_given, IsPending-blanks, SpellsRecords-blanks, end_stays, behind-shorter, BeginsWithRecord, HasRecord, IsPending}
+use Rattle.enf_run.proofs.Vocabulary.{IsTruncated, RefusesFront, behind_blanks, Reader, ReadsNext, RefusesOnce, fed, Item, LogItem, LogMode, LogRefusal, Outside, NameEntry, clock_after, Exchanged}
+use Rattle.enf_run.proofs.Vocabulary.{IsReadBegun, EndsIntake, EndsTurn, GetsPiece, IsStreamUntouched, ReadMeetsEnd, RefusesNext, TakesBytes, TurnTakesPiece, reads_in, most_log_bytes, IsTakenToEnd}
+use Rattle.enf_run.proofs.Vocabulary.{records_of, LogEndsAs, IsRestRefusedAs, LogReading, TakenLog, taken_log, Intake, Verdict, RecordRefusal}
+use Rattle.enf_run.proofs.ExchangeLemmas.{IsSteady, begun_gave, begun_marked, begun_took, exchanged_ended, exchanged_gave, exchanged_marked, exchanged_none, exchanged_took, steady_gave, steady_none}
+use Rattle.enf_run.proofs.ExchangeLemmas.{steady_took}
 use Rattle.log_stream.specs.declared.items.LogRefusal.TheVariants as log
 use Rattle.enf_run.specs.declared.intake.Verdict.TheVariants as verdicts
 use Rattle.enf_run.specs.declared.refusals.RecordRefusal.TheVariants as records

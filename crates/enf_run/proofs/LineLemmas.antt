@@ -1,12 +1,8 @@
 -- The lines of steps, and those of their actions, one step after another.
-use Rattle.enf_run.proofs.Vocabulary.{none_more, one_more, ◌≡◌, ℕ, ◌+◌, ◌<◌, List, [], ◌∷◌, ◌++◌, refl, sym, ap, subst}
-use Rattle.enf_run.proofs.Vocabulary.{◌∙◌, append_assoc, inl, inr, length, length-append, map, take, drop, get_or}
-use Rattle.enf_run.proofs.Vocabulary.{arith, ◌-◌, append-nil, map-append, take-append-drop, take_at, take_more}
-use Rattle.enf_run.proofs.Vocabulary.{flat_map-append, flat_map-map, Gave, Stream, ActedStep, out_step, out_steps}
-use Rattle.enf_run.proofs.Vocabulary.{acted_step, acted_steps, Rule, line_of, text_of, entry_names as names_of}
-use Rattle.enf_run.proofs.Vocabulary.{NameEntry, Gains, IsFrontOfActions, SaysActions, SaysActionsInPart, joined_texts}
-use Rattle.enf_run.proofs.Vocabulary.{Seen, action_lines, step_action_lines, faults_behind, CutsActions, CutsSteps}
-use Rattle.enf_run.proofs.Vocabulary.{GivesSteps, Cut}
+use Rattle.enf_run.proofs.Vocabulary.{none_more, one_more, ◌≡◌, ℕ, ◌+◌, ◌<◌, List, [], ◌∷◌, ◌++◌, refl, sym, ap, subst, ◌∙◌, append_assoc, inl, inr, length, length-append, map, take, drop, get_or}
+use Rattle.enf_run.proofs.Vocabulary.{arith, ◌-◌, append-nil, map-append, take-append-drop, take_at, take_more, flat_map-append, flat_map-map, Gave, Stream, ActedStep, out_step, out_steps, acted_step}
+use Rattle.enf_run.proofs.Vocabulary.{acted_steps, Rule, line_of, text_of, entry_names as names_of, NameEntry, Gains, IsFrontOfActions, SaysActions, SaysActionsInPart, joined_texts, Seen}
+use Rattle.enf_run.proofs.Vocabulary.{action_lines, step_action_lines, faults_behind, CutsActions, CutsSteps, GivesSteps, Cut}
 use Rattle.enf_run.proofs.ExchangeLemmas.{gave_more, gave_none}
 use Rattle.enf_run.proofs.TextLemmas.{Broken, Whole}
 use Rattle.enforcer_core.specs.declared.steps.OutStep as made

@@ -1,12 +1,8 @@
 -- Records at the front of a log: how many bytes they have, their times, and that no event stands twice in them.
-use Rattle.enf_run.proofs.Vocabulary.{◌≡◌, ℕ, ◌≤◌, nat_lt, Bool, true, false, List, [], ◌∷◌}
-use Rattle.enf_run.proofs.Vocabulary.{◌++◌, map, Option, None, Some, Result, Ok, Err, if◌then◌else◌, refl}
-use Rattle.enf_run.proofs.Vocabulary.{sym, subst, ◌∙◌, arith, true≢false, nat_tests, AreDistinct, has_event}
-use Rattle.enf_run.proofs.Vocabulary.{has_event-Decides, HasNoRepeats, HasNoRepeats-push, Event, IsRecordAnswer}
-use Rattle.enf_run.proofs.Vocabulary.{event_from_written, events_from_written, first_event_refusal, judged_step}
-use Rattle.enf_run.proofs.Vocabulary.{with_event_put, with_events_put, SpellsRecords, Line, TickLine, LogItem, LogMode}
-use Rattle.enf_run.proofs.Vocabulary.{Input, LogRefusal, TimeTooLarge, ok_is, NameEntry, most_time, time_of, StepKind}
-use Rattle.enf_run.proofs.Vocabulary.{System, Inserted, record_of, records_of}
+use Rattle.enf_run.proofs.Vocabulary.{◌≡◌, ℕ, ◌≤◌, nat_lt, Bool, true, false, List, [], ◌∷◌, ◌++◌, map, Option, None, Some, Result, Ok, Err, if◌then◌else◌, refl, sym, subst, ◌∙◌, arith, true≢false}
+use Rattle.enf_run.proofs.Vocabulary.{nat_tests, AreDistinct, has_event, has_event-Decides, HasNoRepeats, HasNoRepeats-push, Event, IsRecordAnswer, event_from_written, events_from_written}
+use Rattle.enf_run.proofs.Vocabulary.{first_event_refusal, judged_step, with_event_put, with_events_put, SpellsRecords, Line, TickLine, LogItem, LogMode, Input, LogRefusal, TimeTooLarge, ok_is}
+use Rattle.enf_run.proofs.Vocabulary.{NameEntry, most_time, time_of, StepKind, System, Inserted, record_of, records_of}
 use Rattle.log_stream.specs.declared.items.LogItem.TheVariants as items
 
 -- a step that is read has its time

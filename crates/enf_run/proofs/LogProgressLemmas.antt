@@ -1,22 +1,13 @@
 -- How far the run of a log has come, and one turn more.
-use Rattle.enf_run.proofs.Vocabulary.{◌≡◌, ℕ, ◌+◌, ◌-◌, ◌<◌, ◌≤◌, List, [], ◌∷◌, ◌++◌, length, refl, sym, ap, subst}
-use Rattle.enf_run.proofs.Vocabulary.{◌∙◌, inl, inr, Option, arith, append_assoc, ◌⊎◌, IsTrue, append-nil, map-append}
-use Rattle.enf_run.proofs.Vocabulary.{length_push, one_more, Exchange, Stream, Gave, Formula, Rule, Step, ActedStep}
-use Rattle.enf_run.proofs.Vocabulary.{out_steps, steps_of, Permits, Course, IsJustOne, FollowsPolicy, FollowsToEnd}
-use Rattle.enf_run.proofs.Vocabulary.{AreDistinct, VarId, Enforcing, enforcer_plans, acted_steps, Stands, StepOut}
-use Rattle.enf_run.proofs.Vocabulary.{SpellsRecords-append, SpellsRecords-blanks, SpellsRecords-none}
-use Rattle.enf_run.proofs.Vocabulary.{SpellsRecords-push, BeginsWithRecord-shorter, text_of, BeginsWithRecord}
-use Rattle.enf_run.proofs.Vocabulary.{IsPending, SpellsRecords, behind_blanks, LogItem, Input, entry_names as names_of}
-use Rattle.enf_run.proofs.Vocabulary.{NameEntry, Good, trace_of, Record, clock_after, recorded, GoodPrefix, UpToDate}
-use Rattle.enf_run.proofs.Vocabulary.{IsOwedInAll, IsOwedSoFar, LogSetting, is_causable, is_suppressible, ArePlanned}
-use Rattle.enf_run.proofs.Vocabulary.{StoredTyped, WorkTogether, typed_of, SaysActions, Seen, CutsActions, CutsLine}
-use Rattle.enf_run.proofs.Vocabulary.{CutsSteps, all_formulas, most_log_bytes, record_of, records_of}
-use Rattle.enf_run.proofs.Vocabulary.{IsTransparentPolicy, Exchanged, IsReadBegun, LosesBytes, TakesBytes, CutsRun}
-use Rattle.enf_run.proofs.Vocabulary.{FailsAtGate, FailsAtReport, IsCutLine, IsOwedWhere, LacksMemory, RunsShort}
-use Rattle.enf_run.proofs.Vocabulary.{taken_log_of, RanSo, HasPlans, enforcer_setting, AcceptsRecords, Plan}
-use Rattle.enf_run.proofs.Vocabulary.{is_transparent, CutsDrain, CutsDrainLines, CutsTaken, GivesDrain, GivesRest}
-use Rattle.enf_run.proofs.Vocabulary.{LosesTurn, TakesItem, WritesNothing, LogMoment, log_moment, EnforcerDrains}
-use Rattle.enf_run.proofs.Vocabulary.{EnforcerTakes, EnforcerLaws, Cut, Enforcement, Judged, Verdict}
+use Rattle.enf_run.proofs.Vocabulary.{◌≡◌, ℕ, ◌+◌, ◌-◌, ◌<◌, ◌≤◌, List, [], ◌∷◌, ◌++◌, length, refl, sym, ap, subst, ◌∙◌, inl, inr, Option, arith, append_assoc, ◌⊎◌, IsTrue, append-nil, map-append}
+use Rattle.enf_run.proofs.Vocabulary.{length_push, one_more, Exchange, Stream, Gave, Formula, Rule, Step, ActedStep, out_steps, steps_of, Permits, Course, IsJustOne, FollowsPolicy, FollowsToEnd}
+use Rattle.enf_run.proofs.Vocabulary.{AreDistinct, VarId, Enforcing, enforcer_plans, acted_steps, Stands, StepOut, SpellsRecords-append, SpellsRecords-blanks, SpellsRecords-none, SpellsRecords-push}
+use Rattle.enf_run.proofs.Vocabulary.{BeginsWithRecord-shorter, text_of, BeginsWithRecord, IsPending, SpellsRecords, behind_blanks, LogItem, Input, entry_names as names_of, NameEntry, Good, trace_of}
+use Rattle.enf_run.proofs.Vocabulary.{Record, clock_after, recorded, GoodPrefix, UpToDate, IsOwedInAll, IsOwedSoFar, LogSetting, is_causable, is_suppressible, ArePlanned, StoredTyped, WorkTogether}
+use Rattle.enf_run.proofs.Vocabulary.{typed_of, SaysActions, Seen, CutsActions, CutsLine, CutsSteps, all_formulas, most_log_bytes, record_of, records_of, IsTransparentPolicy, Exchanged, IsReadBegun}
+use Rattle.enf_run.proofs.Vocabulary.{LosesBytes, TakesBytes, CutsRun, FailsAtGate, FailsAtReport, IsCutLine, IsOwedWhere, LacksMemory, RunsShort, taken_log_of, RanSo, HasPlans, enforcer_setting}
+use Rattle.enf_run.proofs.Vocabulary.{AcceptsRecords, Plan, is_transparent, CutsDrain, CutsDrainLines, CutsTaken, GivesDrain, GivesRest, LosesTurn, TakesItem, WritesNothing, LogMoment, log_moment}
+use Rattle.enf_run.proofs.Vocabulary.{EnforcerDrains, EnforcerTakes, EnforcerLaws, Cut, Enforcement, Judged, Verdict}
 use Rattle.std.specs.Prelude.{Bool, true, false}
 use Rattle.enf_run.proofs.CutLineLemmas.{cut_none}
 use Rattle.enf_run.proofs.LineLemmas.{all_said, fails_within, gains_none, lines_behind, said_in_part, says_more}
@@ -112,7 +103,7 @@ module _ (entries : List NameEntry) (rules : List Rule) (first : Enforcing) (tra
       -- and with a drain what is owed in all
       pub owed_in_all : (made : StepOut) (after : Enforcing) → EnforcerDrains now made after → IsOwedInAll setting (records_of h.read) (h.out ++ acted_steps made.steps)
       owed_in_all made after d =
-          let e = laws.enforces (is_causable entries) (is_suppressible entries) first trace (records_of h.read) h.out now made after may.0 h.course d in
+          let e = laws.enforces (is_causable entries) (is_suppressible entries) first trace (records_of h.read) h.out now made after may.0 h.course d.stands d.satisfied d.changed in
           let decided = laws.follows_to_end entries policy guards first trace (records_of h.read) h.out now made built h.course d.decided in
           record {
             lawful = e.lawful;
@@ -154,7 +145,7 @@ module _ (entries : List NameEntry) (rules : List Rule) (first : Enforcing) (tra
             spelled = SpellsRecords-push entries Input taken h.read rest item more h.spelled begins;
             out = h.out ++ acted_steps made.steps;
             course = subst (λ (rs : List Record). Course first trace rs (h.out ++ acted_steps made.steps) after) (sym (map-append record_of h.read (item ∷ [])))
-                (laws.goes_on first trace (records_of h.read) h.out now (record_of item) made after h.course takes);
+                (laws.goes_on first trace (records_of h.read) h.out now (record_of item) made after h.course takes.in_time takes.goes_on takes.stands takes.changed takes.decided);
           }
 
     -- the steps in front of others that can be continued well can be so themselves

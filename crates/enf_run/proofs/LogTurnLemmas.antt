@@ -1,17 +1,12 @@
 -- One turn more of the run of a log, and how it ends.
-use Rattle.enf_run.proofs.Vocabulary.{◌≡◌, ℕ, ◌+◌, ◌*◌, ◌-◌, ◌^◌, ◌<◌, ◌≤◌, List, []}
-use Rattle.enf_run.proofs.Vocabulary.{◌++◌, length, length-append, None, false, inl, inr, sym, ap, subst, ◌∙◌}
-use Rattle.enf_run.proofs.Vocabulary.{arith, Enforcing, out_steps, Stands, Step, Rule, text_of, behind_blanks, Reader}
-use Rattle.enf_run.proofs.Vocabulary.{Input, BeginsWithRecord-shorter, behind-shorter, entry_names as names_of}
-use Rattle.enf_run.proofs.Vocabulary.{NameEntry, UpToDate, LogSetting, reading_of, SaysActions, Seen, most_log_bytes}
-use Rattle.enf_run.proofs.Vocabulary.{record_of, EndsTurn, TakesBytes, CutsRun, HasPlans, enforcer_setting, AnswersTurn}
-use Rattle.enf_run.proofs.Vocabulary.{CutsTurn, EnforcesLater, EnforcesOne, IsNewLog, WritesNothing, reads_on}
-use Rattle.enf_run.proofs.Vocabulary.{EnforcerLaws, Cut, Enforcement, Verdict}
+use Rattle.enf_run.proofs.Vocabulary.{◌≡◌, ℕ, ◌+◌, ◌*◌, ◌-◌, ◌^◌, ◌<◌, ◌≤◌, List, [], ◌++◌, length, length-append, None, false, inl, inr, sym, ap, subst, ◌∙◌, arith, Enforcing, out_steps, Stands}
+use Rattle.enf_run.proofs.Vocabulary.{Step, Rule, text_of, behind_blanks, Reader, Input, BeginsWithRecord-shorter, behind-shorter, entry_names as names_of, NameEntry, UpToDate, LogSetting, reading_of}
+use Rattle.enf_run.proofs.Vocabulary.{SaysActions, Seen, most_log_bytes, record_of, EndsTurn, TakesBytes, CutsRun, HasPlans, enforcer_setting, AnswersTurn, CutsTurn, EnforcesLater, EnforcesOne}
+use Rattle.enf_run.proofs.Vocabulary.{IsNewLog, WritesNothing, reads_on, EnforcerLaws, Cut, Enforcement, Verdict}
 use Rattle.enf_run.proofs.IntakeLemmas.{far_ended}
 use Rattle.enf_run.proofs.LogLemmas.{item_time}
 use Rattle.enf_run.proofs.TakenLogLemmas.{HasTaken, taken_more, taken_one}
-use Rattle.enf_run.proofs.LogProgressLemmas.{Ended, MayRun, Progress, cut_memory, cut_taken, progress_more}
-use Rattle.enf_run.proofs.LogProgressLemmas.{progress_none, progress_one, setting, up_to_date}
+use Rattle.enf_run.proofs.LogProgressLemmas.{Ended, MayRun, Progress, cut_memory, cut_taken, progress_more, progress_none, progress_one, setting, up_to_date}
 use Rattle.enf_run.specs.declared.endings.Cut.TheVariants as cuts
 
 module _ (entries : List NameEntry) (rules : List Rule) (first : Enforcing) (trace : List Step) (laws : EnforcerLaws) (may : MayRun entries first) (built : HasPlans entries rules first) where

@@ -1,15 +1,9 @@
 -- A log is read in one way, and so it ends in one.
-use Rattle.enf_run.proofs.Vocabulary.{◌≡◌, ℕ, ◌-◌, ◌<◌, ◌≤◌, List, [], ◌∷◌, ◌++◌}
-use Rattle.enf_run.proofs.Vocabulary.{Option, Some, None, Result, Err, Ok, length, take, drop, refl, sym, ap, subst}
-use Rattle.enf_run.proofs.Vocabulary.{◌∙◌, inl, inr, arith, length-take, append-nil, take-append-drop, Exchange}
-use Rattle.enf_run.proofs.Vocabulary.{IsAtEnd, input_left, OfCalls, Stream, Grew, GrewWhereTold, left-since}
-use Rattle.enf_run.proofs.Vocabulary.{IsRecordAnswer, BeginsWithRecord, HasRecord, IsPending}
-use Rattle.enf_run.proofs.Vocabulary.{RefusesFront as RefusesText, SpellsRecords, behind_blanks, record_bytes}
-use Rattle.enf_run.proofs.Vocabulary.{record_length, BeginsWithRecord-append, RefusesFront-append, SpellsRecords-append}
-use Rattle.enf_run.proofs.Vocabulary.{LogItem, LogMode, LogRefusal, ok_is, ok_not_err, NameEntry, NeverFall}
-use Rattle.enf_run.proofs.Vocabulary.{clock_after, time_of, IsWholeLog, taken_between, Exchanged, IsExchange}
-use Rattle.enf_run.proofs.Vocabulary.{AcceptsRecords, IsFallingRecord, IsRestRefusedAs, LogReading, ReadsLogToEnd}
-use Rattle.enf_run.proofs.Vocabulary.{TakenLog, clock_behind, taken_log, record_of, records_of, RecordRefusal}
+use Rattle.enf_run.proofs.Vocabulary.{◌≡◌, ℕ, ◌-◌, ◌<◌, ◌≤◌, List, [], ◌∷◌, ◌++◌, Option, Some, None, Result, Err, Ok, length, take, drop, refl, sym, ap, subst, ◌∙◌, inl, inr, arith, length-take}
+use Rattle.enf_run.proofs.Vocabulary.{append-nil, take-append-drop, Exchange, IsAtEnd, input_left, OfCalls, Stream, Grew, GrewWhereTold, left-since, IsRecordAnswer, BeginsWithRecord, HasRecord}
+use Rattle.enf_run.proofs.Vocabulary.{IsPending, RefusesFront as RefusesText, SpellsRecords, behind_blanks, record_bytes, record_length, BeginsWithRecord-append, RefusesFront-append}
+use Rattle.enf_run.proofs.Vocabulary.{SpellsRecords-append, LogItem, LogMode, LogRefusal, ok_is, ok_not_err, NameEntry, NeverFall, clock_after, time_of, IsWholeLog, taken_between, Exchanged}
+use Rattle.enf_run.proofs.Vocabulary.{IsExchange, AcceptsRecords, IsFallingRecord, IsRestRefusedAs, LogReading, ReadsLogToEnd, TakenLog, clock_behind, taken_log, record_of, records_of, RecordRefusal}
 use Rattle.log_stream.specs.declared.items.LogRefusal.TheVariants as log
 use Rattle.enf_run.specs.declared.intake.Verdict.TheVariants as verdicts
 use Rattle.enf_run.specs.declared.refusals.RecordRefusal.TheVariants as records

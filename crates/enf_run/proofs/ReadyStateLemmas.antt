@@ -1,19 +1,11 @@
 -- What is saved after a log can be taken up again: its numbers are small enough for the form of saved texts.
-use Rattle.enf_run.proofs.Vocabulary.{◌≡◌, ◌∙◌, ◌<◌, ◌≤◌, ◌^◌, ◌++◌, ◌∷◌, ℕ, List}
-use Rattle.enf_run.proofs.Vocabulary.{[], All, Option, None, Some, Result, length, map, sym, ap, subst, arith}
-use Rattle.enf_run.proofs.Vocabulary.{AllByRecursion, append-nil, All-contains, All-from_recursion, All-nil, All-weaker}
-use Rattle.enf_run.proofs.Vocabulary.{IsTrace, AllByRecursion-from_contains, Step, Formula, True, False, Atom, Equal}
-use Rattle.enf_run.proofs.Vocabulary.{Less, AtMost, Not, And, Or, Implies, Exists, Forall, Prev, Next, Once}
-use Rattle.enf_run.proofs.Vocabulary.{Historically, Since, Eventually, Always, Until, FileView, IoRefusal, NameEntry}
-use Rattle.enf_run.proofs.Vocabulary.{Rule, SpellsRecords, LogItem, Input, AreWithinBounds, HaveTime, IsKeepable}
-use Rattle.enf_run.proofs.Vocabulary.{IsTimely, IsFrom, IsLastTime, KeptRow, Plan, OnePlans, WorkTogether, typed_of}
-use Rattle.enf_run.proofs.Vocabulary.{CanBePending, IsReady, PendIsOne, Instance, ActedStep, out_steps, steps_of}
-use Rattle.enf_run.proofs.Vocabulary.{AreLines, LinesFollow, IsSmallNumber, IsSmallTime, IsSnapshotOf, due_line}
-use Rattle.enf_run.proofs.Vocabulary.{lines_of, row_line, saved_text, HasSmallNumbers, End, Position, Snapshot}
-use Rattle.enf_run.proofs.Vocabulary.{Enforcing, enforcer_plans, KeptCanBeTakenUp, policy_operators, last_time}
-use Rattle.enf_run.proofs.Vocabulary.{trace_of, Start, start_behind, clock_after, most_time, time_of, Inserted, System}
-use Rattle.enf_run.proofs.Vocabulary.{EnforcerStandsBehind, WritesState, IsOwedSoFar, enforced_from, record_of}
-use Rattle.enf_run.proofs.Vocabulary.{records_of, IsReadyState, IsStartOf}
+use Rattle.enf_run.proofs.Vocabulary.{◌≡◌, ◌∙◌, ◌<◌, ◌≤◌, ◌^◌, ◌++◌, ◌∷◌, ℕ, List, [], All, Option, None, Some, Result, length, map, sym, ap, subst, arith, AllByRecursion, append-nil, All-contains}
+use Rattle.enf_run.proofs.Vocabulary.{All-from_recursion, All-nil, All-weaker, IsTrace, AllByRecursion-from_contains, Step, Formula, True, False, Atom, Equal, Less, AtMost, Not, And, Or, Implies}
+use Rattle.enf_run.proofs.Vocabulary.{Exists, Forall, Prev, Next, Once, Historically, Since, Eventually, Always, Until, FileView, IoRefusal, NameEntry, Rule, SpellsRecords, LogItem, Input}
+use Rattle.enf_run.proofs.Vocabulary.{AreWithinBounds, HaveTime, IsKeepable, IsTimely, IsFrom, IsLastTime, KeptRow, Plan, OnePlans, WorkTogether, typed_of, CanBePending, IsReady, PendIsOne, Instance}
+use Rattle.enf_run.proofs.Vocabulary.{ActedStep, out_steps, steps_of, AreLines, LinesFollow, IsSmallNumber, IsSmallTime, IsSnapshotOf, due_line, lines_of, row_line, saved_text, HasSmallNumbers, End}
+use Rattle.enf_run.proofs.Vocabulary.{Position, Snapshot, Enforcing, enforcer_plans, KeptCanBeTakenUp, policy_operators, last_time, trace_of, Start, start_behind, clock_after, most_time, time_of}
+use Rattle.enf_run.proofs.Vocabulary.{Inserted, System, EnforcerStandsBehind, WritesState, IsOwedSoFar, enforced_from, record_of, records_of, IsReadyState, IsStartOf}
 use Rattle.save_codec.specs.declared.lines.Line.{Line}
 use Rattle.enf_run.proofs.LogLemmas.{item_time}
 use Rattle.enf_run.proofs.SavedStateLemmas.{is_state_of, same_trace}

@@ -1,9 +1,6 @@
 -- What is added to the report, piece by piece.
-use Rattle.enf_run.proofs.Vocabulary.{◌≡◌, ◌≢◌, ℕ, ◌+◌, ◌<◌, List, [], ◌∷◌, ◌++◌}
-use Rattle.enf_run.proofs.Vocabulary.{length, take, drop, get_or, refl, sym, ap, ◌∙◌, append_assoc, arith}
-use Rattle.enf_run.proofs.Vocabulary.{length-append, length-drop, Option, Err, flat_map, append-nil, take-append-drop}
-use Rattle.enf_run.proofs.Vocabulary.{take_more, flat_map-append, Exchange, Gave, write_faults_after, WriteRefusal}
-use Rattle.enf_run.proofs.Vocabulary.{cut_after, write_faults_behind, AddsPart}
+use Rattle.enf_run.proofs.Vocabulary.{◌≡◌, ◌≢◌, ℕ, ◌+◌, ◌<◌, List, [], ◌∷◌, ◌++◌, length, take, drop, get_or, refl, sym, ap, ◌∙◌, append_assoc, arith, length-append, length-drop, Option, Err}
+use Rattle.enf_run.proofs.Vocabulary.{flat_map, append-nil, take-append-drop, take_more, flat_map-append, Exchange, Gave, write_faults_after, WriteRefusal, cut_after, write_faults_behind, AddsPart}
 use Rattle.enf_run.proofs.ExchangeLemmas.{gave_more}
 use Rattle.enf_io.specs.declared.writing.WriteRefusal.TheVariants as writes
 

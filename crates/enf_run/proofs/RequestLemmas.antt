@@ -1,25 +1,14 @@
 -- What the words ask for, and what files tell: one thing, so that what was found in a run is what they tell.
-use Rattle.enf_run.proofs.Vocabulary.{◌≡◌, ℕ, ◌==◌, ◌≤◌, if◌then◌else◌, List, [], ◌∷◌, ◌++◌, Option, Some, None, Result}
-use Rattle.enf_run.proofs.Vocabulary.{Err, Ok, length, codes, get_or, refl, sym, ap, subst, ◌∙◌, inl, inr, arith}
-use Rattle.enf_run.proofs.Vocabulary.{AllByRecursion, ◌⊎◌, Contents, Stream, AcceptedIsNotRefused, OnePlans}
-use Rattle.enf_run.proofs.Vocabulary.{RefusesPolicy, TypeRefusal, IsPolicyAnswer, Rule, IsScopedPlan, AreWellFormed}
-use Rattle.enf_run.proofs.Vocabulary.{SaveSetting as Bounds, clock_behind_line, KeepsBounds, IsTextOfLines, lines_of}
-use Rattle.enf_run.proofs.Vocabulary.{OneSaveAnswer as OneStateAnswer, OneText, AnswersSave, Snapshot}
-use Rattle.enf_run.proofs.Vocabulary.{OneSignatureAnswer, same_signature_answer, AnswersSignature as IsSignatureAnswer}
-use Rattle.enf_run.proofs.Vocabulary.{NameEntry, Start, from_nothing, Call, AreBytesHeld, AreBytesUnder, HoldsState}
-use Rattle.enf_run.proofs.Vocabulary.{IsRefusedPolicy, IsRefusedSignature, IsRefusedState, ReadsPolicy, SpellsPolicy}
-use Rattle.enf_run.proofs.Vocabulary.{SpellsRefusedPolicy, SpellsSignature, AreOfForm, Form, Audit, Check, Drill}
-use Rattle.enf_run.proofs.Vocabulary.{Enforce, Generate, NoForm, AsksToEnforce, AsksToldEnforce, EnforceRefused}
-use Rattle.enf_run.proofs.Vocabulary.{RefusesStateFile, TellsClock, WhereItStarts, RunOutcome, OutcomeOf, LogSetting}
-use Rattle.enf_run.proofs.Vocabulary.{enforced_from, all_formulas, IsReadyState, States, option_words, state_words}
-use Rattle.enf_run.proofs.Vocabulary.{states_of, refusal_status, RefusesRun, AsksUnderPolicy, RefusesPolicyFile}
-use Rattle.enf_run.proofs.Vocabulary.{RefusesSignatureFile, HoldsStart, IsBounds, IsStartOf, state_bounds}
-use Rattle.enf_run.proofs.Vocabulary.{AsksToldPolicy, AsksRefusedFile, AsksRefusedPolicy, AsksRefusedSignature}
-use Rattle.enf_run.proofs.Vocabulary.{TellBytes, NamesEnforce, IsAuditForm, IsCheckForm, IsEnforceForm, MatchNoForm}
-use Rattle.enf_run.proofs.Vocabulary.{NamesFiles, MOST_STATE_BYTES, PolicyRefusal, Refusal, SignatureRefusal}
-use Rattle.enf_run.proofs.Vocabulary.{StateRefusal, Status, AreAccepted, ArePlanned, Formula, IsAccepted, Plan}
-use Rattle.enf_run.proofs.Vocabulary.{PlansAreWellFormed, ReadIsWellFormed, VarId, NoFormRefused, RefusedOf, AsksPolicy}
-use Rattle.enf_run.proofs.Vocabulary.{MatchNone}
+use Rattle.enf_run.proofs.Vocabulary.{◌≡◌, ℕ, ◌==◌, ◌≤◌, if◌then◌else◌, List, [], ◌∷◌, ◌++◌, Option, Some, None, Result, Err, Ok, length, codes, get_or, refl, sym, ap, subst, ◌∙◌, inl, inr, arith}
+use Rattle.enf_run.proofs.Vocabulary.{AllByRecursion, ◌⊎◌, Contents, Stream, AcceptedIsNotRefused, OnePlans, RefusesPolicy, TypeRefusal, IsPolicyAnswer, Rule, IsScopedPlan, AreWellFormed}
+use Rattle.enf_run.proofs.Vocabulary.{SaveSetting as Bounds, clock_behind_line, KeepsBounds, IsTextOfLines, lines_of, OneSaveAnswer as OneStateAnswer, OneText, AnswersSave, Snapshot}
+use Rattle.enf_run.proofs.Vocabulary.{OneSignatureAnswer, same_signature_answer, AnswersSignature as IsSignatureAnswer, NameEntry, Start, from_nothing, Call, AreBytesHeld, AreBytesUnder, HoldsState}
+use Rattle.enf_run.proofs.Vocabulary.{IsRefusedPolicy, IsRefusedSignature, IsRefusedState, ReadsPolicy, SpellsPolicy, SpellsRefusedPolicy, SpellsSignature, AreOfForm, Form, Audit, Check, Drill}
+use Rattle.enf_run.proofs.Vocabulary.{Enforce, Generate, NoForm, AsksToEnforce, AsksToldEnforce, EnforceRefused, RefusesStateFile, TellsClock, WhereItStarts, RunOutcome, OutcomeOf, LogSetting}
+use Rattle.enf_run.proofs.Vocabulary.{enforced_from, all_formulas, IsReadyState, States, option_words, state_words, states_of, refusal_status, RefusesRun, AsksUnderPolicy, RefusesPolicyFile}
+use Rattle.enf_run.proofs.Vocabulary.{RefusesSignatureFile, HoldsStart, IsBounds, IsStartOf, state_bounds, AsksToldPolicy, AsksRefusedFile, AsksRefusedPolicy, AsksRefusedSignature, TellBytes}
+use Rattle.enf_run.proofs.Vocabulary.{NamesEnforce, IsAuditForm, IsCheckForm, IsEnforceForm, MatchNoForm, NamesFiles, MOST_STATE_BYTES, PolicyRefusal, Refusal, SignatureRefusal, StateRefusal, Status}
+use Rattle.enf_run.proofs.Vocabulary.{AreAccepted, ArePlanned, Formula, IsAccepted, Plan, PlansAreWellFormed, ReadIsWellFormed, VarId, NoFormRefused, RefusedOf, AsksPolicy, MatchNone}
 use Rattle.formula_reader.specs.declared.policies.PolicyRefusal.{PolicyRefusal as PolicyTextRefusal}
 use Rattle.save_codec.specs.declared.lines.Line.{Line}
 use Rattle.save_codec.specs.declared.refusals.StateRefusal.{StateRefusal as StateTextRefusal}

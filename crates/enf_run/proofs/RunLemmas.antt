@@ -1,29 +1,16 @@
 -- How a run ends, from how its parts end.
-use Rattle.enf_run.proofs.Vocabulary.{none_more, one_more, ◌≡◌, ℕ, ◌+◌, ◌≤◌, Bool, List, [], length, inl, inr, refl}
-use Rattle.enf_run.proofs.Vocabulary.{sym, ap, subst, ◌∙◌, is_some, true, false, Option, None, Some, Result, Ok, Err}
-use Rattle.enf_run.proofs.Vocabulary.{OnePlans, ArePlanned, PendIsOne, SaveSetting as Bounds, Enforcing}
-use Rattle.enf_run.proofs.Vocabulary.{KeptCanBeTakenUp, MOST_FILE_BYTES, Rule, NameEntry, Stream, IoRefusal, Call}
-use Rattle.enf_run.proofs.Vocabulary.{LeavesFiles, RunsCut, RunsRefused, RunsLogSo, RunsWhole, SavesState}
-use Rattle.enf_run.proofs.Vocabulary.{SavesWhereAsked, WhereStood, WritesState, RanSo, conclusion_of, rest_left}
-use Rattle.enf_run.proofs.Vocabulary.{HasPlans, BeginsLog, EndsStart, typed_bounds, IsBounds, Seen, seen_of, saved_text}
-use Rattle.enf_run.proofs.Vocabulary.{check_text, CheckLacks, CheckOutcome, CheckRefused, ending_after_file, CutsText}
-use Rattle.enf_run.proofs.Vocabulary.{Concludes, WritesText, faults_behind, all_formulas, States, records_of, EndsFile}
-use Rattle.enf_run.proofs.Vocabulary.{HoldsPolicy, HoldsRefusedPolicy, HoldsRefusedSignature, HoldsSignature, CutsRun}
-use Rattle.enf_run.proofs.Vocabulary.{TookLog, LogSetting, enforced_from, AuditLacks, AuditOutcome, AuditRefused}
-use Rattle.enf_run.proofs.Vocabulary.{AuditsLog, FindsVerdict, GivesNoVerdict, SaysVerdict, SaysVerdictInPart}
-use Rattle.enf_run.proofs.Vocabulary.{GaveNothing, LosesLog, TakesTrace, TakesWholeTrace, trace_log, verdict_line}
-use Rattle.enf_run.proofs.Vocabulary.{DrillOutcome, AsksToEnforce, CutsLog, EnforceLacks, EnforceOutcome}
-use Rattle.enf_run.proofs.Vocabulary.{EnforceRefused, EnforcesLog, FailsToWrite, IsEnforceDone, PausesRun}
-use Rattle.enf_run.proofs.Vocabulary.{WhereItStarts, WritesRun, GenerateOutcome, NoFormOutcome, NoFormRefused}
-use Rattle.enf_run.proofs.Vocabulary.{RefusesWords, AsksUnderPolicy, MissesFile, RefusesPolicyFile}
-use Rattle.enf_run.proofs.Vocabulary.{RefusesSignatureFile, RunsOutBefore, CutsDrill, SaysDrillLine, generated_text}
-use Rattle.enf_run.proofs.Vocabulary.{HasAudited, finish_after, Exchanged, LogEndsAs, input_log, taken_log, Audited}
-use Rattle.enf_run.proofs.Vocabulary.{Gave, VerdictIsOfPolicy, Holds, Fails, most_time, recorded, Inserted}
-use Rattle.enf_run.proofs.Vocabulary.{refusal_status, RefusesRun, RunsOutOfMemory, RunsOutInLine, IsTyped, Typed}
-use Rattle.enf_run.proofs.Vocabulary.{StoredTyped, typed_of, NamesEnforce, IsAuditForm, IsCheckForm, IsDrillForm}
-use Rattle.enf_run.proofs.Vocabulary.{IsEnforceForm, IsGenerateForm, Cut, Ending, FileEnding, Finish, Verdict}
-use Rattle.enf_run.proofs.Vocabulary.{Enforcement, PolicyRefusal, Refusal, SignatureRefusal, Status, AddsPart}
-use Rattle.enf_run.proofs.Vocabulary.{AddsPartOrNothing, GivesCheckText, GivesFor, GivesLog, SaysDrillPartOrNothing}
+use Rattle.enf_run.proofs.Vocabulary.{none_more, one_more, ◌≡◌, ℕ, ◌+◌, ◌≤◌, Bool, List, [], length, inl, inr, refl, sym, ap, subst, ◌∙◌, is_some, true, false, Option, None, Some, Result, Ok, Err}
+use Rattle.enf_run.proofs.Vocabulary.{OnePlans, ArePlanned, PendIsOne, SaveSetting as Bounds, Enforcing, KeptCanBeTakenUp, MOST_FILE_BYTES, Rule, NameEntry, Stream, IoRefusal, Call, LeavesFiles}
+use Rattle.enf_run.proofs.Vocabulary.{RunsCut, RunsRefused, RunsLogSo, RunsWhole, SavesState, SavesWhereAsked, WhereStood, WritesState, RanSo, conclusion_of, rest_left, HasPlans, BeginsLog, EndsStart}
+use Rattle.enf_run.proofs.Vocabulary.{typed_bounds, IsBounds, Seen, seen_of, saved_text, check_text, CheckLacks, CheckOutcome, CheckRefused, ending_after_file, CutsText, Concludes, WritesText}
+use Rattle.enf_run.proofs.Vocabulary.{faults_behind, all_formulas, States, records_of, EndsFile, HoldsPolicy, HoldsRefusedPolicy, HoldsRefusedSignature, HoldsSignature, CutsRun, TookLog, LogSetting}
+use Rattle.enf_run.proofs.Vocabulary.{enforced_from, AuditLacks, AuditOutcome, AuditRefused, AuditsLog, FindsVerdict, GivesNoVerdict, SaysVerdict, SaysVerdictInPart, GaveNothing, LosesLog, TakesTrace}
+use Rattle.enf_run.proofs.Vocabulary.{TakesWholeTrace, trace_log, verdict_line, DrillOutcome, AsksToEnforce, CutsLog, EnforceLacks, EnforceOutcome, EnforceRefused, EnforcesLog, FailsToWrite}
+use Rattle.enf_run.proofs.Vocabulary.{IsEnforceDone, PausesRun, WhereItStarts, WritesRun, GenerateOutcome, NoFormOutcome, NoFormRefused, RefusesWords, AsksUnderPolicy, MissesFile, RefusesPolicyFile}
+use Rattle.enf_run.proofs.Vocabulary.{RefusesSignatureFile, RunsOutBefore, CutsDrill, SaysDrillLine, generated_text, HasAudited, finish_after, Exchanged, LogEndsAs, input_log, taken_log, Audited}
+use Rattle.enf_run.proofs.Vocabulary.{Gave, VerdictIsOfPolicy, Holds, Fails, most_time, recorded, Inserted, refusal_status, RefusesRun, RunsOutOfMemory, RunsOutInLine, IsTyped, Typed, StoredTyped}
+use Rattle.enf_run.proofs.Vocabulary.{typed_of, NamesEnforce, IsAuditForm, IsCheckForm, IsDrillForm, IsEnforceForm, IsGenerateForm, Cut, Ending, FileEnding, Finish, Verdict, Enforcement}
+use Rattle.enf_run.proofs.Vocabulary.{PolicyRefusal, Refusal, SignatureRefusal, Status, AddsPart, AddsPartOrNothing, GivesCheckText, GivesFor, GivesLog, SaysDrillPartOrNothing}
 use Rattle.trace_audit.specs.declared.verdicts.Verdict.{Verdict as Found}
 use Rattle.enf_run.proofs.ReadyStateLemmas.{ready_behind}
 use Rattle.enf_run.proofs.SavedStateLemmas.{is_state_of}

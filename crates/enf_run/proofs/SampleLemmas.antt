@@ -1,13 +1,9 @@
 -- The sample policy is accepted.
-use Rattle.enf_run.proofs.Vocabulary.{◌≡◌, ℕ, zero, suc, ◌≤◌, false, List, [], ◌∷◌, Contains}
-use Rattle.enf_run.proofs.Vocabulary.{Option, None, Some, refl, sym, ap, subst, ◌∙◌, inl, inr, ⊎_elim, arith}
-use Rattle.enf_run.proofs.Vocabulary.{AllByRecursion, option_or, true≢false, Formula, AllByRecursion-contains}
-use Rattle.enf_run.proofs.Vocabulary.{first_or_later, here, none_in_nil, there_from_get, NameId, Var, VarId, IsAccepted}
-use Rattle.enf_run.proofs.Vocabulary.{ArePlanned, IsGuardFor, ImplicationAnswer, OverOne, OverTwo, renumber_all}
-use Rattle.enf_run.proofs.Vocabulary.{NotEnforceable, of_u, sample_entries, sample_rules, u, IsTest, all_guards, nodes}
-use Rattle.enf_run.proofs.Vocabulary.{Plan, guard_triggers, itself as self, IsOnCycle, EdgesLead, Edge, IsCauseNode}
-use Rattle.enf_run.proofs.Vocabulary.{IsPath, IsStart, IsUntriggered, begun_later, below, needs_trigger, path_triggers}
-use Rattle.enf_run.proofs.Vocabulary.{AreAccepted, deeper, all_formulas}
+use Rattle.enf_run.proofs.Vocabulary.{◌≡◌, ℕ, zero, suc, ◌≤◌, false, List, [], ◌∷◌, Contains, Option, None, Some, refl, sym, ap, subst, ◌∙◌, inl, inr, ⊎_elim, arith, AllByRecursion, option_or}
+use Rattle.enf_run.proofs.Vocabulary.{true≢false, Formula, AllByRecursion-contains, first_or_later, here, none_in_nil, there_from_get, NameId, Var, VarId, IsAccepted, ArePlanned, IsGuardFor}
+use Rattle.enf_run.proofs.Vocabulary.{ImplicationAnswer, OverOne, OverTwo, renumber_all, NotEnforceable, of_u, sample_entries, sample_rules, u, IsTest, all_guards, nodes, Plan, guard_triggers}
+use Rattle.enf_run.proofs.Vocabulary.{itself as self, IsOnCycle, EdgesLead, Edge, IsCauseNode, IsPath, IsStart, IsUntriggered, begun_later, below, needs_trigger, path_triggers, AreAccepted, deeper}
+use Rattle.enf_run.proofs.Vocabulary.{all_formulas}
 use Rattle.std.proofs.Common.{IsTrue}
 use Rattle.enf_formula.specs.meaning.Satisfaction as tree
 use Rattle.plan_terms.specs.meaning.Plans as plans

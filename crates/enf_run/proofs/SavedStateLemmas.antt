@@ -1,12 +1,8 @@
 -- What is saved of an enforcer that stands after what was given, and how a save ends.
-use Rattle.enf_run.proofs.Vocabulary.{◌≡◌, ℕ, Bool, List, [], ◌∷◌, ◌++◌, map, refl, sym, ap, subst}
-use Rattle.enf_run.proofs.Vocabulary.{is_some, Option, None, Some, Bor, Result, Ok, Err, option_map, Formula, Step}
-use Rattle.enf_run.proofs.Vocabulary.{VarId, BoundFormula, tree_in, all_operators, guards_of, trace_of, start_behind}
-use Rattle.enf_run.proofs.Vocabulary.{Record, ActedStep, out_steps, steps_of, Enforcing, enforcer_plans, SavesTrace}
-use Rattle.enf_run.proofs.Vocabulary.{IsTextOfLines, IsSnapshotOf, lines_of, saved_text, HasSmallNumbers, Snapshot}
-use Rattle.enf_run.proofs.Vocabulary.{FileView, WritesFile, IoRefusal, cut_after_file, EnforcerStandsBehind}
-use Rattle.enf_run.proofs.Vocabulary.{RanAsJudged, RanSo, conclusion_of, rest_left, SavesState, WritesState, TookLog}
-use Rattle.enf_run.proofs.Vocabulary.{LogSetting, LogReading, Seen, Judged, Verdict, IsStateText}
+use Rattle.enf_run.proofs.Vocabulary.{◌≡◌, ℕ, Bool, List, [], ◌∷◌, ◌++◌, map, refl, sym, ap, subst, is_some, Option, None, Some, Bor, Result, Ok, Err, option_map, Formula, Step, VarId, BoundFormula}
+use Rattle.enf_run.proofs.Vocabulary.{tree_in, all_operators, guards_of, trace_of, start_behind, Record, ActedStep, out_steps, steps_of, Enforcing, enforcer_plans, SavesTrace, IsTextOfLines}
+use Rattle.enf_run.proofs.Vocabulary.{IsSnapshotOf, lines_of, saved_text, HasSmallNumbers, Snapshot, FileView, WritesFile, IoRefusal, cut_after_file, EnforcerStandsBehind, RanAsJudged, RanSo}
+use Rattle.enf_run.proofs.Vocabulary.{conclusion_of, rest_left, SavesState, WritesState, TookLog, LogSetting, LogReading, Seen, Judged, Verdict, IsStateText}
 use Rattle.enf_run.proofs.FileLemmas.{same_counts}
 use Rattle.enf_io.specs.declared.devices.IoRefusal.TheVariants as io
 use Rattle.enf_run.specs.declared.intake.Verdict.TheVariants as verdicts

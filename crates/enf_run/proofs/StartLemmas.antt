@@ -1,15 +1,9 @@
 -- From where a log is begun, and why it is not.
-use Rattle.enf_run.proofs.Vocabulary.{◌≡◌, ◌∙◌, ◌<◌, ◌^◌, ℕ, List, [], ◌∷◌, All, map, refl}
-use Rattle.enf_run.proofs.Vocabulary.{sym, ap, subst, arith, Option, None, Some, AllByRecursion, Formula, Contents}
-use Rattle.enf_run.proofs.Vocabulary.{FileView, VarId, Rule, AreWithinBounds, all_operators, Plan, IsScopedPlan}
-use Rattle.enf_run.proofs.Vocabulary.{AreWellFormed, IsWellFormed, OnePlans, ArePlanned, StoredTyped, WorkTogether}
-use Rattle.enf_run.proofs.Vocabulary.{typed_of, CanBePending, PendCanBePending, IsReady, NoneIsOver, PendIsOne}
-use Rattle.enf_run.proofs.Vocabulary.{Instance, OneState, KeepsBounds, SaveSetting as Bounds, IsSnapshotOf, Snapshot}
-use Rattle.enf_run.proofs.Vocabulary.{IsNewEnforcer, Enforcing, CanBeTakenUp, IsTakenUpFrom, StandsAgain}
-use Rattle.enf_run.proofs.Vocabulary.{policy_operators, Stands, NameEntry, Input, Start, ending_after_file, EndsFile}
-use Rattle.enf_run.proofs.Vocabulary.{HoldsRefusedState, HoldsState, IsNewIntake, all_formulas, IsStateText}
-use Rattle.enf_run.proofs.Vocabulary.{IsReadyState, IsNewLog, BeginsLog, EndsStart, typed_bounds, FileEnding}
-use Rattle.enf_run.proofs.Vocabulary.{MOST_STATE_BYTES, Enforcement, StateRefusal}
+use Rattle.enf_run.proofs.Vocabulary.{◌≡◌, ◌∙◌, ◌<◌, ◌^◌, ℕ, List, [], ◌∷◌, All, map, refl, sym, ap, subst, arith, Option, None, Some, AllByRecursion, Formula, Contents, FileView, VarId, Rule}
+use Rattle.enf_run.proofs.Vocabulary.{AreWithinBounds, all_operators, Plan, IsScopedPlan, AreWellFormed, IsWellFormed, OnePlans, ArePlanned, StoredTyped, WorkTogether, typed_of, CanBePending}
+use Rattle.enf_run.proofs.Vocabulary.{PendCanBePending, IsReady, NoneIsOver, PendIsOne, Instance, OneState, KeepsBounds, SaveSetting as Bounds, IsSnapshotOf, Snapshot, IsNewEnforcer, Enforcing}
+use Rattle.enf_run.proofs.Vocabulary.{CanBeTakenUp, IsTakenUpFrom, StandsAgain, policy_operators, Stands, NameEntry, Input, Start, ending_after_file, EndsFile, HoldsRefusedState, HoldsState}
+use Rattle.enf_run.proofs.Vocabulary.{IsNewIntake, all_formulas, IsStateText, IsReadyState, IsNewLog, BeginsLog, EndsStart, typed_bounds, FileEnding, MOST_STATE_BYTES, Enforcement, StateRefusal}
 use Rattle.enf_run.proofs.SavedStateLemmas.{same_guards}
 use Rattle.enf_io.specs.declared.devices.IoRefusal.TheVariants as io
 use Rattle.enf_run.specs.declared.endings.FileEnding.TheVariants as files

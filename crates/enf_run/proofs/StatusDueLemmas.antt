@@ -1,26 +1,16 @@
 -- Where each status must come: what the table of a form says at the other statuses leaves no room for it.
-use Rattle.enf_run.proofs.Vocabulary.{◌≡◌, ℕ, List, Ok, refl, sym, ap, subst, ◌∙◌, inl, inr, FileView, WritesFile}
-use Rattle.enf_run.proofs.Vocabulary.{Stream, AcceptedIsNotRefused, OnePlans, Rule, LogItem}
-use Rattle.enf_run.proofs.Vocabulary.{OneSaveAnswer as OneStateAnswer, OneText, OneSignatureAnswer, NameEntry}
-use Rattle.enf_run.proofs.Vocabulary.{VerdictIsOne, IsVerdict, Holds, Fails, recorded, GaveNothing, TakesWholeTrace}
-use Rattle.enf_run.proofs.Vocabulary.{trace_log, AsksToAudit, AuditDue, AuditOutcome, AuditRefused, AuditsLog}
-use Rattle.enf_run.proofs.Vocabulary.{FindsVerdict, IsAuditable, RefusesAudited, SaysVerdict, Call, LeavesFiles}
-use Rattle.enf_run.proofs.Vocabulary.{LeavesGate, IsBrokenOff, ComesToStatus, DueOf, Dues, Form, Audit, Check, Drill}
-use Rattle.enf_run.proofs.Vocabulary.{Enforce, Generate, NoForm, AnyExchange, TookLog, CheckDue, CheckOutcome}
-use Rattle.enf_run.proofs.Vocabulary.{CheckRefused, DrillDue, DrillOutcome, AsksToEnforce, AsksToEnforceSo}
-use Rattle.enf_run.proofs.Vocabulary.{AsksToldEnforce, EnforceDue, EnforceOutcome, EnforceRefused, IsEnforceable}
-use Rattle.enf_run.proofs.Vocabulary.{RefusesRecord, GenerateDue, GenerateOutcome, NoFormDue, NoFormOutcome}
-use Rattle.enf_run.proofs.Vocabulary.{NoFormRefused, RefusesWords, RunOutcome, OutcomeOf, all_formulas, States}
-use Rattle.enf_run.proofs.Vocabulary.{records_of, LogReading, ReadsLogToEnd, input_log, refusal_status, RefusesRun}
-use Rattle.enf_run.proofs.Vocabulary.{seen_of, AsksUnderPolicy, AsksToldPolicy, AsksRefusedFile, MeetsReadFault}
-use Rattle.enf_run.proofs.Vocabulary.{MeetsRefusedRecord, MeetsWriteFault, NamesEnforce, IsAuditForm, IsCheckForm}
-use Rattle.enf_run.proofs.Vocabulary.{Verdict, RecordRefusal, Refusal, Status, GivesCheckText, none_more, Gave}
+use Rattle.enf_run.proofs.Vocabulary.{◌≡◌, ℕ, List, Ok, refl, sym, ap, subst, ◌∙◌, inl, inr, FileView, WritesFile, Stream, AcceptedIsNotRefused, OnePlans, Rule, LogItem}
+use Rattle.enf_run.proofs.Vocabulary.{OneSaveAnswer as OneStateAnswer, OneText, OneSignatureAnswer, NameEntry, VerdictIsOne, IsVerdict, Holds, Fails, recorded, GaveNothing, TakesWholeTrace, trace_log}
+use Rattle.enf_run.proofs.Vocabulary.{AsksToAudit, AuditDue, AuditOutcome, AuditRefused, AuditsLog, FindsVerdict, IsAuditable, RefusesAudited, SaysVerdict, Call, LeavesFiles, LeavesGate, IsBrokenOff}
+use Rattle.enf_run.proofs.Vocabulary.{ComesToStatus, DueOf, Dues, Form, Audit, Check, Drill, Enforce, Generate, NoForm, AnyExchange, TookLog, CheckDue, CheckOutcome, CheckRefused, DrillDue}
+use Rattle.enf_run.proofs.Vocabulary.{DrillOutcome, AsksToEnforce, AsksToEnforceSo, AsksToldEnforce, EnforceDue, EnforceOutcome, EnforceRefused, IsEnforceable, RefusesRecord, GenerateDue}
+use Rattle.enf_run.proofs.Vocabulary.{GenerateOutcome, NoFormDue, NoFormOutcome, NoFormRefused, RefusesWords, RunOutcome, OutcomeOf, all_formulas, States, records_of, LogReading, ReadsLogToEnd}
+use Rattle.enf_run.proofs.Vocabulary.{input_log, refusal_status, RefusesRun, seen_of, AsksUnderPolicy, AsksToldPolicy, AsksRefusedFile, MeetsReadFault, MeetsRefusedRecord, MeetsWriteFault}
+use Rattle.enf_run.proofs.Vocabulary.{NamesEnforce, IsAuditForm, IsCheckForm, Verdict, RecordRefusal, Refusal, Status, GivesCheckText, none_more, Gave}
 use Rattle.trace_audit.specs.declared.verdicts.Verdict.{Verdict as Found}
-use Rattle.enf_run.proofs.RequestLemmas.{AcceptedIsFormed, OneTextAnswer, bounds_formed, asks_named, audit_names}
-use Rattle.enf_run.proofs.RequestLemmas.{check_names, enforces_names, enforced_told, no_refused_policy}
-use Rattle.enf_run.proofs.RequestLemmas.{no_refused_signature, not_asked, one_asked, policy_named}
-use Rattle.enf_run.proofs.RequestLemmas.{read_not_refused_state, same_asked, same_clock, same_states, drills_unrefused}
-use Rattle.enf_run.proofs.RequestLemmas.{generates_unrefused, none_violates, words_alone, words_not_refused}
+use Rattle.enf_run.proofs.RequestLemmas.{AcceptedIsFormed, OneTextAnswer, bounds_formed, asks_named, audit_names, check_names, enforces_names, enforced_told, no_refused_policy, no_refused_signature}
+use Rattle.enf_run.proofs.RequestLemmas.{not_asked, one_asked, policy_named, read_not_refused_state, same_asked, same_clock, same_states, drills_unrefused, generates_unrefused, none_violates}
+use Rattle.enf_run.proofs.RequestLemmas.{words_alone, words_not_refused}
 use Rattle.enf_run.proofs.FileLemmas.{same_counts}
 use Rattle.enf_run.proofs.OneReadingLemmas.{OneRecordAnswer, refused_not_whole, whole_meets_none, whole_read}
 use Rattle.enf_run.specs.declared.intake.Verdict.TheVariants as verdicts

@@ -1,21 +1,13 @@
 -- How much of a log was taken, whatever the enforcer stands for: one turn more, and how it ends.
-use Rattle.enf_run.proofs.Vocabulary.{◌≡◌, ℕ, ◌+◌, ◌-◌, ◌≤◌, Bool, true, false, List, []}
-use Rattle.enf_run.proofs.Vocabulary.{◌∷◌, ◌++◌, length, inl, inr, refl, sym, ap, subst, ◌∙◌, arith}
-use Rattle.enf_run.proofs.Vocabulary.{length_push, map-append, one_more, Exchange, Stream, Gave, ◌⊎◌, ActedStep}
-use Rattle.enf_run.proofs.Vocabulary.{out_steps, Enforcing, acted_steps, Rule, text_of, behind_blanks}
-use Rattle.enf_run.proofs.Vocabulary.{SpellsRecords-append, SpellsRecords-blanks, SpellsRecords-none}
-use Rattle.enf_run.proofs.Vocabulary.{SpellsRecords-push, Reader, LogItem, Input, entry_names as names_of, NameEntry}
-use Rattle.enf_run.proofs.Vocabulary.{NeverFall, clock_after, Gains, Seen, action_lines, most_log_bytes, record_of}
-use Rattle.enf_run.proofs.Vocabulary.{records_of, Exchanged, EndsTurn, LosesBytes, TakesBytes, CutsSteps, AnyExchange}
-use Rattle.enf_run.proofs.Vocabulary.{HasWriteFault, LostLog, TookLog, CutsDrain, CutsDrainLines, CutsTurn}
-use Rattle.enf_run.proofs.Vocabulary.{EnforcesLater, EnforcesOne, GivesRest, IsNewLog, LosesTurn, LogMoment}
-use Rattle.enf_run.proofs.Vocabulary.{WritesNothing, log_moment, AcceptsRecords, input_log, taken_log, Cut, Verdict}
-use Rattle.enf_run.proofs.Vocabulary.{Enforcement}
+use Rattle.enf_run.proofs.Vocabulary.{◌≡◌, ℕ, ◌+◌, ◌-◌, ◌≤◌, Bool, true, false, List, [], ◌∷◌, ◌++◌, length, inl, inr, refl, sym, ap, subst, ◌∙◌, arith, length_push, map-append, one_more, Exchange}
+use Rattle.enf_run.proofs.Vocabulary.{Stream, Gave, ◌⊎◌, ActedStep, out_steps, Enforcing, acted_steps, Rule, text_of, behind_blanks, SpellsRecords-append, SpellsRecords-blanks, SpellsRecords-none}
+use Rattle.enf_run.proofs.Vocabulary.{SpellsRecords-push, Reader, LogItem, Input, entry_names as names_of, NameEntry, NeverFall, clock_after, Gains, Seen, action_lines, most_log_bytes, record_of}
+use Rattle.enf_run.proofs.Vocabulary.{records_of, Exchanged, EndsTurn, LosesBytes, TakesBytes, CutsSteps, AnyExchange, HasWriteFault, LostLog, TookLog, CutsDrain, CutsDrainLines, CutsTurn}
+use Rattle.enf_run.proofs.Vocabulary.{EnforcesLater, EnforcesOne, GivesRest, IsNewLog, LosesTurn, LogMoment, WritesNothing, log_moment, AcceptsRecords, input_log, taken_log, Cut, Verdict, Enforcement}
 use Rattle.std.specs.Prelude.{Option}
 use Rattle.enf_run.proofs.AuditLemmas.{clock-push, never_fall-push}
 use Rattle.enf_run.proofs.ExchangeLemmas.{exchanged_gave, gave_none}
-use Rattle.enf_run.proofs.IntakeLemmas.{IsEnded, IsFar, ends_gave, exchanged_more, far_ended, far_gave, far_none}
-use Rattle.enf_run.proofs.IntakeLemmas.{far_took}
+use Rattle.enf_run.proofs.IntakeLemmas.{IsEnded, IsFar, ends_gave, exchanged_more, far_ended, far_gave, far_none, far_took}
 use Rattle.enf_run.proofs.LineLemmas.{gains_more, gains_none}
 use Rattle.enf_run.specs.declared.endings.Cut.TheVariants as cuts
 

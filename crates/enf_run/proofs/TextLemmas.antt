@@ -1,8 +1,6 @@
 -- A text that is given in parts, one after the other.
-use Rattle.enf_run.proofs.Vocabulary.{◌≡◌, ℕ, ◌+◌, ◌<◌, List, [], ◌∷◌, ◌++◌, length, take}
-use Rattle.enf_run.proofs.Vocabulary.{drop, get_or, refl, sym, ap, subst, ◌∙◌, append_assoc, Ok, Err, flat_map}
-use Rattle.enf_run.proofs.Vocabulary.{append-nil, take-append-drop, take_more, flat_map-append, Stream, WritesAll}
-use Rattle.enf_run.proofs.Vocabulary.{written_before, WriteRefusal, cut_after, write_faults_behind, WritesText, Cut}
+use Rattle.enf_run.proofs.Vocabulary.{◌≡◌, ℕ, ◌+◌, ◌<◌, List, [], ◌∷◌, ◌++◌, length, take, drop, get_or, refl, sym, ap, subst, ◌∙◌, append_assoc, Ok, Err, flat_map, append-nil, take-append-drop}
+use Rattle.enf_run.proofs.Vocabulary.{take_more, flat_map-append, Stream, WritesAll, written_before, WriteRefusal, cut_after, write_faults_behind, WritesText, Cut}
 use Rattle.enf_run.proofs.CutLineLemmas.{part_none, part_take}
 use Rattle.enf_run.proofs.ExchangeLemmas.{gave_more, gave_none}
 use Rattle.enf_run.proofs.ReportLemmas.{cut_counts}

@@ -1,10 +1,7 @@
 -- What one turn of the run of a log does, from what its calls do.
-use Rattle.enf_run.proofs.Vocabulary.{◌≡◌, ℕ, List, refl, sym, ap, subst, ◌∙◌, inl, inr, Option, None}
-use Rattle.enf_run.proofs.Vocabulary.{Some, Global, Vec, Stream, Enforcing, BeginsWithRecord, LogItem, Input, NameEntry}
-use Rattle.enf_run.proofs.Vocabulary.{AnswersRead, EndsIntake, GetsPiece, RefusesNext, record_of, Record, AnswersTurn}
-use Rattle.enf_run.proofs.Vocabulary.{CutsAnswer, CutsItem, CutsNext, CutsTurn, LeavesItem, LogMoment, WaitsForMore}
-use Rattle.enf_run.proofs.Vocabulary.{WritesNothing, log_front, log_moment, Seen, seen_of, Rule, Cut, Enforcement}
-use Rattle.enf_run.proofs.Vocabulary.{Intake, Verdict, RecordRefusal}
+use Rattle.enf_run.proofs.Vocabulary.{◌≡◌, ℕ, List, refl, sym, ap, subst, ◌∙◌, inl, inr, Option, None, Some, Global, Vec, Stream, Enforcing, BeginsWithRecord, LogItem, Input, NameEntry, AnswersRead}
+use Rattle.enf_run.proofs.Vocabulary.{EndsIntake, GetsPiece, RefusesNext, record_of, Record, AnswersTurn, CutsAnswer, CutsItem, CutsNext, CutsTurn, LeavesItem, LogMoment, WaitsForMore, WritesNothing}
+use Rattle.enf_run.proofs.Vocabulary.{log_front, log_moment, Seen, seen_of, Rule, Cut, Enforcement, Intake, Verdict, RecordRefusal}
 use Rattle.enf_run.proofs.IntakeLemmas.{IsBehindBlanks, ends_intake, takes_more}
 use Rattle.enf_run.specs.declared.endings.Cut.TheVariants as cuts
 

@@ -1,20 +1,13 @@
 -- What three calls of `run` gave and said, the first two of which take one log one after the other, and the third all
 -- of it.
-use Rattle.enf_run.proofs.Vocabulary.{◌≡◌, ◌≢◌, ℕ, ◌-◌, ◌<◌, Bool, true, false, List, [], ◌++◌, length, Option, Some}
-use Rattle.enf_run.proofs.Vocabulary.{Ok, take, refl, sym, ap, subst, ◌∙◌, append_assoc, arith, inl, inr, length-append}
-use Rattle.enf_run.proofs.Vocabulary.{append-nil, take-append-drop, flat_map-append, Contents, Exchange, IsAtEnd}
-use Rattle.enf_run.proofs.Vocabulary.{input_left, OfCalls, exchange_since, taken_bytes, Stream, Gave, Grew}
-use Rattle.enf_run.proofs.Vocabulary.{GrewWhereTold, left-since, ActedStep, out_steps, AcceptedIsNotRefused, Rule}
-use Rattle.enf_run.proofs.Vocabulary.{RefusesFront as RefusesText, LogItem, LogRefusal, OneSignatureAnswer, NameEntry}
-use Rattle.enf_run.proofs.Vocabulary.{trace_of, Start, start_behind, clock_after, UpToDate, LogSetting, enforced_from}
-use Rattle.enf_run.proofs.Vocabulary.{action_lines, step_action_lines, most_log_bytes, records_of, IsReadyState, States}
-use Rattle.enf_run.proofs.Vocabulary.{Call, IsExchange, AreBytesHeld, IsOwedAtEnd, PausesLog, RunsLogFor, taken_log_of}
-use Rattle.enf_run.proofs.Vocabulary.{AsksToEnforce, MayStart, PausesRun, WritesRun, comes_to, ReadsPolicy}
-use Rattle.enf_run.proofs.Vocabulary.{SpellsSignature, LogEndsAs, IsRestRefusedAs, TakenLog, Seen, seen_of, HoldsStart}
-use Rattle.enf_run.proofs.Vocabulary.{IsStartOf, CallsAreOne, GivesBoth, GoesOnFromSaved, PausesAreOne, SameSources}
-use Rattle.enf_run.proofs.Vocabulary.{TakeTurns, TakesBoth, TakesLogs, TellsCalls, TellsCall, calls_of, given_of}
-use Rattle.enf_run.proofs.Vocabulary.{input_of, said_of, taken_of_call, IsEndOfLog, IsLogOver, TwoRunJoins}
-use Rattle.enf_run.proofs.Vocabulary.{setting_after, Verdict, RecordRefusal}
+use Rattle.enf_run.proofs.Vocabulary.{◌≡◌, ◌≢◌, ℕ, ◌-◌, ◌<◌, Bool, true, false, List, [], ◌++◌, length, Option, Some, Ok, take, refl, sym, ap, subst, ◌∙◌, append_assoc, arith, inl, inr, length-append}
+use Rattle.enf_run.proofs.Vocabulary.{append-nil, take-append-drop, flat_map-append, Contents, Exchange, IsAtEnd, input_left, OfCalls, exchange_since, taken_bytes, Stream, Gave, Grew, GrewWhereTold}
+use Rattle.enf_run.proofs.Vocabulary.{left-since, ActedStep, out_steps, AcceptedIsNotRefused, Rule, RefusesFront as RefusesText, LogItem, LogRefusal, OneSignatureAnswer, NameEntry, trace_of, Start}
+use Rattle.enf_run.proofs.Vocabulary.{start_behind, clock_after, UpToDate, LogSetting, enforced_from, action_lines, step_action_lines, most_log_bytes, records_of, IsReadyState, States, Call}
+use Rattle.enf_run.proofs.Vocabulary.{IsExchange, AreBytesHeld, IsOwedAtEnd, PausesLog, RunsLogFor, taken_log_of, AsksToEnforce, MayStart, PausesRun, WritesRun, comes_to, ReadsPolicy, SpellsSignature}
+use Rattle.enf_run.proofs.Vocabulary.{LogEndsAs, IsRestRefusedAs, TakenLog, Seen, seen_of, HoldsStart, IsStartOf, CallsAreOne, GivesBoth, GoesOnFromSaved, PausesAreOne, SameSources, TakeTurns}
+use Rattle.enf_run.proofs.Vocabulary.{TakesBoth, TakesLogs, TellsCalls, TellsCall, calls_of, given_of, input_of, said_of, taken_of_call, IsEndOfLog, IsLogOver, TwoRunJoins, setting_after, Verdict}
+use Rattle.enf_run.proofs.Vocabulary.{RecordRefusal}
 use Rattle.std.specs.Prelude.{IfSome}
 use Rattle.enf_run.proofs.RequestLemmas.{OneTextAnswer, same_policy, same_signature}
 use Rattle.enf_run.proofs.TwoRunEndLemmas.{OneLog}

@@ -1,13 +1,8 @@
 -- How a log ends after its records is one: what is left of it, with what was not taken, tells.
-use Rattle.enf_run.proofs.Vocabulary.{◌≡◌, ℕ, List, [], ◌++◌, Option, None, Some, refl, sym, ap, subst}
-use Rattle.enf_run.proofs.Vocabulary.{◌∙◌, inl, inr, append-nil, Stream, BeginsWithRecord-append}
-use Rattle.enf_run.proofs.Vocabulary.{RefusesFront-append, BeginsWithRecord, EndsBy, IsLog, IsPending}
-use Rattle.enf_run.proofs.Vocabulary.{RefusesFront as RefusesText, behind_blanks, record_length, LogItem, LogMode}
-use Rattle.enf_run.proofs.Vocabulary.{LogRefusal, NameEntry, time_of, LogEndsAs, IsFallingRecord, IsRestRefusedAs}
-use Rattle.enf_run.proofs.Vocabulary.{TakenLog, clock_behind, record_of, IsEndOfLog, IsLogOver, RefusesForGood, Verdict}
-use Rattle.enf_run.proofs.Vocabulary.{RecordRefusal}
-use Rattle.enf_run.proofs.OneReadingLemmas.{OneRecordAnswer, Stops, begins_blanks, begins_not_refused, begins_same}
-use Rattle.enf_run.proofs.OneReadingLemmas.{blank_stops, falling_stops, pending_stops, refused_stops}
+use Rattle.enf_run.proofs.Vocabulary.{◌≡◌, ℕ, List, [], ◌++◌, Option, None, Some, refl, sym, ap, subst, ◌∙◌, inl, inr, append-nil, Stream, BeginsWithRecord-append, RefusesFront-append}
+use Rattle.enf_run.proofs.Vocabulary.{BeginsWithRecord, EndsBy, IsLog, IsPending, RefusesFront as RefusesText, behind_blanks, record_length, LogItem, LogMode, LogRefusal, NameEntry, time_of}
+use Rattle.enf_run.proofs.Vocabulary.{LogEndsAs, IsFallingRecord, IsRestRefusedAs, TakenLog, clock_behind, record_of, IsEndOfLog, IsLogOver, RefusesForGood, Verdict, RecordRefusal}
+use Rattle.enf_run.proofs.OneReadingLemmas.{OneRecordAnswer, Stops, begins_blanks, begins_not_refused, begins_same, blank_stops, falling_stops, pending_stops, refused_stops}
 use Rattle.log_stream.specs.declared.items.LogRefusal.TheVariants as log
 use Rattle.enf_run.specs.declared.intake.Verdict.TheVariants as verdicts
 use Rattle.enf_run.specs.declared.refusals.RecordRefusal.TheVariants as records

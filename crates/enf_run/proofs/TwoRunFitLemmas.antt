@@ -1,16 +1,10 @@
 -- What is read of a log fits the signature: each event is of a name of it, with a value of its sort in each column.
-use Rattle.enf_run.proofs.Vocabulary.{◌≡◌, ℕ, zero, suc, ◌==◌, nat_lt, Bool, true, false, List, []}
-use Rattle.enf_run.proofs.Vocabulary.{◌∷◌, ◌++◌, length, map, Option, None, Some, Contains, Result, Ok, Err}
-use Rattle.enf_run.proofs.Vocabulary.{if◌then◌else◌, refl, sym, subst, arith, slice_get, unwrap_or}
-use Rattle.enf_run.proofs.Vocabulary.{AllByRecursion, option_and_then, option_map, option_or, nat_tests, get_or_past}
-use Rattle.enf_run.proofs.Vocabulary.{none-some, no_step, has_event, AllByRecursion-append, AllByRecursion-contains}
-use Rattle.enf_run.proofs.Vocabulary.{none_in_nil, Event, Step, TraceFits, IsRecordAnswer, argument_clash}
-use Rattle.enf_run.proofs.Vocabulary.{entry_of_name, event_from_written, event_refusal, event_refusal_by}
-use Rattle.enf_run.proofs.Vocabulary.{events_from_written, first_event_refusal, judged_step, with_event_put}
-use Rattle.enf_run.proofs.Vocabulary.{with_events_put, argument_values, SpellsRecords, Line, TickLine, WrittenArgument}
-use Rattle.enf_run.proofs.Vocabulary.{WrittenEvent, LogItem, Input, LogRefusal, Arity, SortClash, TimeTooLarge}
-use Rattle.enf_run.proofs.Vocabulary.{UnknownName, ok_is, has_sort-sort, FillColumns, FitsSignature, has_sort}
-use Rattle.enf_run.proofs.Vocabulary.{name_number, NameEntry, Sort, most_time, recorded, StepKind, records_of}
+use Rattle.enf_run.proofs.Vocabulary.{◌≡◌, ℕ, zero, suc, ◌==◌, nat_lt, Bool, true, false, List, [], ◌∷◌, ◌++◌, length, map, Option, None, Some, Contains, Result, Ok, Err, if◌then◌else◌, refl, sym}
+use Rattle.enf_run.proofs.Vocabulary.{subst, arith, slice_get, unwrap_or, AllByRecursion, option_and_then, option_map, option_or, nat_tests, get_or_past, none-some, no_step, has_event}
+use Rattle.enf_run.proofs.Vocabulary.{AllByRecursion-append, AllByRecursion-contains, none_in_nil, Event, Step, TraceFits, IsRecordAnswer, argument_clash, entry_of_name, event_from_written}
+use Rattle.enf_run.proofs.Vocabulary.{event_refusal, event_refusal_by, events_from_written, first_event_refusal, judged_step, with_event_put, with_events_put, argument_values, SpellsRecords, Line}
+use Rattle.enf_run.proofs.Vocabulary.{TickLine, WrittenArgument, WrittenEvent, LogItem, Input, LogRefusal, Arity, SortClash, TimeTooLarge, UnknownName, ok_is, has_sort-sort, FillColumns}
+use Rattle.enf_run.proofs.Vocabulary.{FitsSignature, has_sort, name_number, NameEntry, Sort, most_time, recorded, StepKind, records_of}
 use Rattle.log_stream.specs.declared.items.LogItem.TheVariants as items
 
 -- ---- a record

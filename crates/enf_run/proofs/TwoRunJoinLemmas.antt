@@ -1,13 +1,9 @@
 -- Records and traces, one list after another.
-use Rattle.enf_run.proofs.Vocabulary.{ℕ, zero, suc, ◌≤◌, Bool, List, [], ◌∷◌, ◌++◌, length, map, refl}
-use Rattle.enf_run.proofs.Vocabulary.{sym, ap, subst, ◌∙◌, append_assoc, arith, length-append, AllByRecursion}
-use Rattle.enf_run.proofs.Vocabulary.{append-nil, get_or_at, All-append, All-from_recursion, All-head, All-tail}
-use Rattle.enf_run.proofs.Vocabulary.{All-weaker, Formula, IsTrace, no_step, HasNoRepeats, NameId, Step, last_time}
-use Rattle.enf_run.proofs.Vocabulary.{Good, AreChangedTo, AreInOrder, IsInsertedLawfully, IsLaterThan, Lawful, OutStep}
-use Rattle.enf_run.proofs.Vocabulary.{IsUntil, event_of, onto_system, system_steps, trace_of, NeverFall, Record}
-use Rattle.enf_run.proofs.Vocabulary.{StepRecord, Tick, clock_after, recorded, time_of, ClockRises, FrontIsGood}
-use Rattle.enf_run.proofs.Vocabulary.{GoodIsTrace, LastIsTheNew, SatisfyingIsGood, TraceGrows, recorded_join}
-use Rattle.enf_run.proofs.Vocabulary.{records_changed_join, StepKind, Inserted, System}
+use Rattle.enf_run.proofs.Vocabulary.{ℕ, zero, suc, ◌≤◌, Bool, List, [], ◌∷◌, ◌++◌, length, map, refl, sym, ap, subst, ◌∙◌, append_assoc, arith, length-append, AllByRecursion, append-nil, get_or_at}
+use Rattle.enf_run.proofs.Vocabulary.{All-append, All-from_recursion, All-head, All-tail, All-weaker, Formula, IsTrace, no_step, HasNoRepeats, NameId, Step, last_time, Good, AreChangedTo, AreInOrder}
+use Rattle.enf_run.proofs.Vocabulary.{IsInsertedLawfully, IsLaterThan, Lawful, OutStep, IsUntil, event_of, onto_system, system_steps, trace_of, NeverFall, Record, StepRecord, Tick, clock_after}
+use Rattle.enf_run.proofs.Vocabulary.{recorded, time_of, ClockRises, FrontIsGood, GoodIsTrace, LastIsTheNew, SatisfyingIsGood, TraceGrows, recorded_join, records_changed_join, StepKind, Inserted}
+use Rattle.enf_run.proofs.Vocabulary.{System}
 use Rattle.std.specs.List.{All}
 
 -- ---- records

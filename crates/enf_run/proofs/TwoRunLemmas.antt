@@ -1,22 +1,13 @@
 -- What two runs give that take one log, the second after the first, is what one run gives.
-use Rattle.enf_run.proofs.Vocabulary.{◌≡◌, ℕ, ◌+◌, ◌^◌, ◌<◌, ◌≤◌, true, false, List, [], ◌∷◌, ◌++◌, length, drop, take}
-use Rattle.enf_run.proofs.Vocabulary.{refl, sym, ap, subst, ◌∙◌, append_assoc, arith, inl, inr, length-append, ◌⊎◌}
-use Rattle.enf_run.proofs.Vocabulary.{cases_lt, append_cancel_left, map-append, take-append-drop, take-append-le}
-use Rattle.enf_run.proofs.Vocabulary.{take_at, flat_map-append, Formula, IsTrace, Step, Good, Satisfies, Lawful}
-use Rattle.enf_run.proofs.Vocabulary.{IsWithin, OutStep, trace_of, Start, NeverFall, Record, clock_after, recorded}
-use Rattle.enf_run.proofs.Vocabulary.{ClockRises, SatisfyingIsGood, recorded_join, Rule, Plan, entry_names as names_of}
-use Rattle.enf_run.proofs.Vocabulary.{NameEntry, is_causable, is_suppressible, OnePlans, steps_behind, follows_join}
-use Rattle.enf_run.proofs.Vocabulary.{follows_split, justified_join, ActedStep, out_step, out_steps, as_it_came}
-use Rattle.enf_run.proofs.Vocabulary.{untouched, AllAreJustified, steps_of, Follows, FollowsDrain, AreDistinct}
-use Rattle.enf_run.proofs.Vocabulary.{FollowsPolicy, FollowsToEnd, IsJustifiedByPolicy, text_of, SpellsRecords}
-use Rattle.enf_run.proofs.Vocabulary.{behind_blanks, SpellsRecords-append, behind-append, behind_more, LogItem, LogMode}
-use Rattle.enf_run.proofs.Vocabulary.{Input, Stream, IsOwedAtEnd, taken_log_of, LogEndsWithStatus, IsAnsweredLog}
-use Rattle.enf_run.proofs.Vocabulary.{IsLineFront, IsRestRefusedFor, IsTakenToEnd, action_lines, step_action_lines}
-use Rattle.enf_run.proofs.Vocabulary.{most_log_bytes, record_of, records_of, IsReadyState, IsStateText, all_formulas}
-use Rattle.enf_run.proofs.Vocabulary.{IsOwedInAll, IsOwedSoFar, LogSetting, enforced_from, policy_of, AreNumberedLines}
-use Rattle.enf_run.proofs.Vocabulary.{IsLastBehind, KeptBehindSaved, SavedBehindSaved, SavedIsAsked, record_head}
-use Rattle.enf_run.proofs.Vocabulary.{start_after, GivesJoins, TwoRunJoins, OwedIsOne, OwedJoins, RunsAreOne}
-use Rattle.enf_run.proofs.Vocabulary.{setting_after, setting_behind, Status}
+use Rattle.enf_run.proofs.Vocabulary.{◌≡◌, ℕ, ◌+◌, ◌^◌, ◌<◌, ◌≤◌, true, false, List, [], ◌∷◌, ◌++◌, length, drop, take, refl, sym, ap, subst, ◌∙◌, append_assoc, arith, inl, inr, length-append, ◌⊎◌}
+use Rattle.enf_run.proofs.Vocabulary.{cases_lt, append_cancel_left, map-append, take-append-drop, take-append-le, take_at, flat_map-append, Formula, IsTrace, Step, Good, Satisfies, Lawful, IsWithin}
+use Rattle.enf_run.proofs.Vocabulary.{OutStep, trace_of, Start, NeverFall, Record, clock_after, recorded, ClockRises, SatisfyingIsGood, recorded_join, Rule, Plan, entry_names as names_of, NameEntry}
+use Rattle.enf_run.proofs.Vocabulary.{is_causable, is_suppressible, OnePlans, steps_behind, follows_join, follows_split, justified_join, ActedStep, out_step, out_steps, as_it_came, untouched}
+use Rattle.enf_run.proofs.Vocabulary.{AllAreJustified, steps_of, Follows, FollowsDrain, AreDistinct, FollowsPolicy, FollowsToEnd, IsJustifiedByPolicy, text_of, SpellsRecords, behind_blanks}
+use Rattle.enf_run.proofs.Vocabulary.{SpellsRecords-append, behind-append, behind_more, LogItem, LogMode, Input, Stream, IsOwedAtEnd, taken_log_of, LogEndsWithStatus, IsAnsweredLog, IsLineFront}
+use Rattle.enf_run.proofs.Vocabulary.{IsRestRefusedFor, IsTakenToEnd, action_lines, step_action_lines, most_log_bytes, record_of, records_of, IsReadyState, IsStateText, all_formulas, IsOwedInAll}
+use Rattle.enf_run.proofs.Vocabulary.{IsOwedSoFar, LogSetting, enforced_from, policy_of, AreNumberedLines, IsLastBehind, KeptBehindSaved, SavedBehindSaved, SavedIsAsked, record_head, start_after}
+use Rattle.enf_run.proofs.Vocabulary.{GivesJoins, TwoRunJoins, OwedIsOne, OwedJoins, RunsAreOne, setting_after, setting_behind, Status}
 use Rattle.std.specs.Prelude.{codes}
 use Rattle.enf_run.proofs.TwoRunJoinLemmas.{falls_behind, falls_first, good_first, lawful_join, recorded_is_trace}
 use Rattle.enf_run.proofs.LineLemmas.{lines_behind}

@@ -1,12 +1,8 @@
 -- What a run comes to fits the signature, and what it has saved so is not refused.
-use Rattle.enf_run.proofs.Vocabulary.{◌≡◌, ◌∙◌, ℕ, ◌<◌, ◌≤◌, ◌^◌, List, [], ◌++◌, length, Option, None, Some, refl, sym}
-use Rattle.enf_run.proofs.Vocabulary.{ap, subst, arith, Contents, FileBytes, Stream, Step, AcceptedIsNotRefused}
-use Rattle.enf_run.proofs.Vocabulary.{OnePlans, PlansAreWellFormed, TraceFits, FollowsFitsSignature, SavedKeepsBounds}
-use Rattle.enf_run.proofs.Vocabulary.{Rule, ReadIsWellFormed, OneSaveAnswer as OneStateAnswer, OneSignatureAnswer}
-use Rattle.enf_run.proofs.Vocabulary.{NameEntry, Start, Call, AreBytesHeld, AreBytesUnder, Enforce, IsAskedRun}
-use Rattle.enf_run.proofs.Vocabulary.{StartsAt, States, records_of, AsksToldEnforce, TellsClock, WritesRun, comes_to}
-use Rattle.enf_run.proofs.Vocabulary.{AskedIsTaken, ComesToFitting, FittingGoesOn, IsFittingStart, IsShortState}
-use Rattle.enf_run.proofs.Vocabulary.{FromNothingFits, SavedIsTaken, SavesFitting, state_bounds, MOST_STATE_BYTES}
+use Rattle.enf_run.proofs.Vocabulary.{◌≡◌, ◌∙◌, ℕ, ◌<◌, ◌≤◌, ◌^◌, List, [], ◌++◌, length, Option, None, Some, refl, sym, ap, subst, arith, Contents, FileBytes, Stream, Step, AcceptedIsNotRefused}
+use Rattle.enf_run.proofs.Vocabulary.{OnePlans, PlansAreWellFormed, TraceFits, FollowsFitsSignature, SavedKeepsBounds, Rule, ReadIsWellFormed, OneSaveAnswer as OneStateAnswer, OneSignatureAnswer}
+use Rattle.enf_run.proofs.Vocabulary.{NameEntry, Start, Call, AreBytesHeld, AreBytesUnder, Enforce, IsAskedRun, StartsAt, States, records_of, AsksToldEnforce, TellsClock, WritesRun, comes_to}
+use Rattle.enf_run.proofs.Vocabulary.{AskedIsTaken, ComesToFitting, FittingGoesOn, IsFittingStart, IsShortState, FromNothingFits, SavedIsTaken, SavesFitting, state_bounds, MOST_STATE_BYTES}
 use Rattle.enf_run.proofs.Vocabulary.{answer_of_rules, rules_of_answer}
 use Rattle.std.specs.Prelude.{Ok}
 use Rattle.enf_run.proofs.RequestLemmas.{AcceptedIsFormed, OneTextAnswer, accepted_formed, enforced_told, outcome_at}

@@ -8,7 +8,7 @@ ghost use Rattle.enf_run.specs.machine.TwoRunHeadlines.{KeptBehindSaved, SavedBe
 
 use enf_io::devices::Gate;
 use enforce_types::laws::{accepted_is_not_refused, plans_are_well_formed, policy_has_one_answer};
-use enforcer_core::laws::{saved_keeps_bounds, what_goes_out_fits};
+use enforcer_core::laws::{saved_keeps_bounds, what_is_emitted_fits};
 use log_stream::laws::{one_answer, one_log};
 use trace_meaning::laws;
 
@@ -71,7 +71,7 @@ pub fn saved_is_not_refused<G: Gate>()
     accepted_is_not_refused();
     plans_are_well_formed();
     policy_has_one_answer();
-    what_goes_out_fits();
+    what_is_emitted_fits();
     saved_keeps_bounds();
 }
 

@@ -1,7 +1,6 @@
 -- What was appended of a text when memory ran out, for a text in parts.
-use Rattle.enf_value.proofs.Vocabulary.{◌≡◌, ℕ, List, [], sym, ◌∙◌, refl, append-nil, ◌++◌, ap}
-use Rattle.enf_value.proofs.Vocabulary.{append_assoc, Result, Ok, Err, OnErr, subst, ◌∷◌, ◌<◌, ◌+◌, take}
-use Rattle.enf_value.proofs.Vocabulary.{drop, length, get_or, take_more, flat_map-append, AppendsPart}
+use Rattle.enf_value.proofs.Vocabulary.{◌≡◌, ℕ, List, [], sym, ◌∙◌, refl, append-nil, ◌++◌, ap, append_assoc, Result, Ok, Err, OnErr, subst, ◌∷◌, ◌<◌, ◌+◌, take, drop, length, get_or, take_more}
+use Rattle.enf_value.proofs.Vocabulary.{flat_map-append, AppendsPart}
 use Rattle.std.proofs.Common.{take-append-drop, flat_map}
 
 -- nothing is a front

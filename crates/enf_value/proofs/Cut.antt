@@ -1,15 +1,9 @@
 -- Each text is cut into tokens, blanks and comments.
-use Rattle.enf_value.proofs.Vocabulary.{◌≡◌, ℕ, zero, suc, ◌+◌, ◌<◌, ◌≤◌, ◌==◌, Bool, true}
-use Rattle.enf_value.proofs.Vocabulary.{false, cond, List, [], ◌∷◌, ◌++◌, length, take, drop, Some, ◌⊎◌}
-use Rattle.enf_value.proofs.Vocabulary.{inl, inr, refl, sym, ap, subst, ◌∙◌, arith, append_assoc, append-nil}
-use Rattle.enf_value.proofs.Vocabulary.{length-append, length-drop, prefix_len, take_while, eqb-true, eqb-false}
-use Rattle.enf_value.proofs.Vocabulary.{nat_tests, take-append-drop, drop_all, length-prefix_len, drop-append_seam}
-use Rattle.enf_value.proofs.Vocabulary.{take-append_seam, Token, TokenAtPlace, WordToken, NumberToken, NegativeToken}
-use Rattle.enf_value.proofs.Vocabulary.{TextToken, SymbolToken, WrongToken, is_blank, is_comment_byte, lexeme_at}
-use Rattle.enf_value.proofs.Vocabulary.{token_piece, tokens_from, wrong_lexeme, IsProper, BeginsToken, IsFrontToken}
-use Rattle.enf_value.proofs.Vocabulary.{AreCut, NoGap, BlankGap, CommentGap, IsInComment, IsLastTokenGap, ClosedGap}
-use Rattle.enf_value.proofs.Vocabulary.{CommentToEnd, IsLongestToken, SpellsToken, StandsBehindGap, TextsAreCut}
-use Rattle.enf_value.proofs.Vocabulary.{front_passes}
+use Rattle.enf_value.proofs.Vocabulary.{◌≡◌, ℕ, zero, suc, ◌+◌, ◌<◌, ◌≤◌, ◌==◌, Bool, true, false, cond, List, [], ◌∷◌, ◌++◌, length, take, drop, Some, ◌⊎◌, inl, inr, refl, sym, ap, subst, ◌∙◌, arith}
+use Rattle.enf_value.proofs.Vocabulary.{append_assoc, append-nil, length-append, length-drop, prefix_len, take_while, eqb-true, eqb-false, nat_tests, take-append-drop, drop_all, length-prefix_len}
+use Rattle.enf_value.proofs.Vocabulary.{drop-append_seam, take-append_seam, Token, TokenAtPlace, WordToken, NumberToken, NegativeToken, TextToken, SymbolToken, WrongToken, is_blank, is_comment_byte}
+use Rattle.enf_value.proofs.Vocabulary.{lexeme_at, token_piece, tokens_from, wrong_lexeme, IsProper, BeginsToken, IsFrontToken, AreCut, NoGap, BlankGap, CommentGap, IsInComment, IsLastTokenGap}
+use Rattle.enf_value.proofs.Vocabulary.{ClosedGap, CommentToEnd, IsLongestToken, SpellsToken, StandsBehindGap, TextsAreCut, front_passes}
 use Rattle.enf_value.proofs.SpellingLaws.{blank_is_passed}
 use Rattle.enf_value.proofs.Fronts.{front_is_within}
 use Rattle.enf_value.proofs.Gaps.{front_step, space_step}

@@ -1,12 +1,8 @@
 -- A text is cut in one way only.
-use Rattle.enf_value.proofs.Vocabulary.{◌≡◌, ℕ, suc, ◌+◌, ◌<◌, true, List, [], ◌∷◌, ◌++◌}
-use Rattle.enf_value.proofs.Vocabulary.{length, slice_index, take, drop, ◌⊎◌, inl, inr, refl, sym, ap, subst}
-use Rattle.enf_value.proofs.Vocabulary.{◌∙◌, arith, append_assoc, append-nil, length-append, list_all}
-use Rattle.enf_value.proofs.Vocabulary.{drop-append_seam, take-append_seam, false≢true as differ, and_parts, Token}
-use Rattle.enf_value.proofs.Vocabulary.{TokenAtPlace, WordToken, NumberToken, NegativeToken, TextToken, SymbolToken}
-use Rattle.enf_value.proofs.Vocabulary.{WrongToken, is_blank, is_comment_byte, tokens, IsProper, BeginsToken, AreCut}
-use Rattle.enf_value.proofs.Vocabulary.{IsTokenGap, NoGap, BlankGap, CommentGap, IsInComment, IsLastTokenGap, ClosedGap}
-use Rattle.enf_value.proofs.Vocabulary.{CommentToEnd, IsLongestToken, IsWrongAt, SpellsToken, StandsBehindGap, OneCut}
+use Rattle.enf_value.proofs.Vocabulary.{◌≡◌, ℕ, suc, ◌+◌, ◌<◌, true, List, [], ◌∷◌, ◌++◌, length, slice_index, take, drop, ◌⊎◌, inl, inr, refl, sym, ap, subst, ◌∙◌, arith, append_assoc, append-nil}
+use Rattle.enf_value.proofs.Vocabulary.{length-append, list_all, drop-append_seam, take-append_seam, false≢true as differ, and_parts, Token, TokenAtPlace, WordToken, NumberToken, NegativeToken}
+use Rattle.enf_value.proofs.Vocabulary.{TextToken, SymbolToken, WrongToken, is_blank, is_comment_byte, tokens, IsProper, BeginsToken, AreCut, IsTokenGap, NoGap, BlankGap, CommentGap, IsInComment}
+use Rattle.enf_value.proofs.Vocabulary.{IsLastTokenGap, ClosedGap, CommentToEnd, IsLongestToken, IsWrongAt, SpellsToken, StandsBehindGap, OneCut}
 use Rattle.enf_value.proofs.Cut.{lt_or_eq, texts_are_cut}
 use Rattle.enf_value.proofs.Shapes.{Shape, Spelled, shape}
 use Rattle.enf_value.proofs.Spelled.{spells_starts}

@@ -1,10 +1,7 @@
 -- The pieces of a text up to its last quote, found from the front.
-use Rattle.enf_value.proofs.Vocabulary.{◌≡◌, ◌≢◌, ℕ, ◌<◌, ◌≤◌, ◌+◌, ◌==◌, Bool, true}
-use Rattle.enf_value.proofs.Vocabulary.{false, inl, inr, List, [], ◌∷◌, ◌++◌, length, get_or, slice_index}
-use Rattle.enf_value.proofs.Vocabulary.{take, drop, refl, sym, ap, subst, ◌∙◌, arith, append-nil, add-zero}
-use Rattle.enf_value.proofs.Vocabulary.{if◌then◌else◌, suc, zero, Option, Some, None, eqb-true, eqb-false}
-use Rattle.enf_value.proofs.Vocabulary.{nat_tests, drop_of_length-le, drop-cons, text_front, with_backslash, with_byte}
-use Rattle.enf_value.proofs.Vocabulary.{with_escape, escape_meaning, IsWrittenText, WrittenTextAt}
+use Rattle.enf_value.proofs.Vocabulary.{◌≡◌, ◌≢◌, ℕ, ◌<◌, ◌≤◌, ◌+◌, ◌==◌, Bool, true, false, inl, inr, List, [], ◌∷◌, ◌++◌, length, get_or, slice_index, take, drop, refl, sym, ap, subst, ◌∙◌, arith}
+use Rattle.enf_value.proofs.Vocabulary.{append-nil, add-zero, if◌then◌else◌, suc, zero, Option, Some, None, eqb-true, eqb-false, nat_tests, drop_of_length-le, drop-cons, text_front, with_backslash}
+use Rattle.enf_value.proofs.Vocabulary.{with_byte, with_escape, escape_meaning, IsWrittenText, WrittenTextAt}
 
 -- after a text and the bytes that are written for it
 abbrev pub behind : List ℕ → ℕ → Option (List ℕ × ℕ) → Option (List ℕ × ℕ)

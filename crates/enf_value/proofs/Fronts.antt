@@ -1,20 +1,12 @@
 -- The tokens of numbers and texts at the front of bytes: where a value's token begins there, it is the token there, and
 -- where none does, the token is wrong.
-use Rattle.enf_value.proofs.Vocabulary.{◌≡◌, ℕ, zero, suc, ◌+◌, ◌^◌, ◌<◌, ◌≤◌, ◌==◌}
-use Rattle.enf_value.proofs.Vocabulary.{nat_lt, nat_le, ℤ, pos, neg_ℤ, Bool, true, false, ◌||◌, ◌&&◌, cond}
-use Rattle.enf_value.proofs.Vocabulary.{inl, inr, List, [], ◌∷◌, ◌++◌, length, slice_index, take, drop}
-use Rattle.enf_value.proofs.Vocabulary.{Option, None, Some, refl, sym, ap, subst, ◌∙◌, arith, if◌then◌else◌}
-use Rattle.enf_value.proofs.Vocabulary.{length-append, length-take, is_ascii_digit, prefix_len, take_while}
-use Rattle.enf_value.proofs.Vocabulary.{take_while-cons, unsigned_abs, AllDigits, IsNumeral, digits_value, eqb-true}
-use Rattle.enf_value.proofs.Vocabulary.{and_parts, nat_tests, take-append-drop, IsUtf8-from_is_utf8}
-use Rattle.enf_value.proofs.Vocabulary.{is_utf8-from_IsUtf8, take-append_seam, is_word, is_word_byte, is_word_start}
-use Rattle.enf_value.proofs.Vocabulary.{Token, Lexeme, CutPiece, WordToken, NumberToken, NegativeToken, TextToken}
-use Rattle.enf_value.proofs.Vocabulary.{SymbolToken, WrongToken, begins_with, digits_lexeme, lexeme_at, mark_at}
-use Rattle.enf_value.proofs.Vocabulary.{mark_lexeme, mark_text, negative_lexeme, text_front, text_lexeme, token_piece}
-use Rattle.enf_value.proofs.Vocabulary.{word_lexeme, wrong_lexeme, IsNumberToken, IsNoDigit, ValueTokenAt, IsTextValue}
-use Rattle.enf_value.proofs.Vocabulary.{is_text_value, IsProper, IsFrontToken, begins_value, Mark as AnyMark}
-use Rattle.enf_value.proofs.Vocabulary.{IsNumberValue, Value, true_from_lt, true_from_le, lt_from_true, le_from_true}
-use Rattle.enf_value.proofs.Vocabulary.{front_passes}
+use Rattle.enf_value.proofs.Vocabulary.{◌≡◌, ℕ, zero, suc, ◌+◌, ◌^◌, ◌<◌, ◌≤◌, ◌==◌, nat_lt, nat_le, ℤ, pos, neg_ℤ, Bool, true, false, ◌||◌, ◌&&◌, cond, inl, inr, List, [], ◌∷◌, ◌++◌, length}
+use Rattle.enf_value.proofs.Vocabulary.{slice_index, take, drop, Option, None, Some, refl, sym, ap, subst, ◌∙◌, arith, if◌then◌else◌, length-append, length-take, is_ascii_digit, prefix_len}
+use Rattle.enf_value.proofs.Vocabulary.{take_while, take_while-cons, unsigned_abs, AllDigits, IsNumeral, digits_value, eqb-true, and_parts, nat_tests, take-append-drop, IsUtf8-from_is_utf8}
+use Rattle.enf_value.proofs.Vocabulary.{is_utf8-from_IsUtf8, take-append_seam, is_word, is_word_byte, is_word_start, Token, Lexeme, CutPiece, WordToken, NumberToken, NegativeToken, TextToken}
+use Rattle.enf_value.proofs.Vocabulary.{SymbolToken, WrongToken, begins_with, digits_lexeme, lexeme_at, mark_at, mark_lexeme, mark_text, negative_lexeme, text_front, text_lexeme, token_piece}
+use Rattle.enf_value.proofs.Vocabulary.{word_lexeme, wrong_lexeme, IsNumberToken, IsNoDigit, ValueTokenAt, IsTextValue, is_text_value, IsProper, IsFrontToken, begins_value, Mark as AnyMark}
+use Rattle.enf_value.proofs.Vocabulary.{IsNumberValue, Value, true_from_lt, true_from_le, lt_from_true, le_from_true, front_passes}
 use Rattle.enf_value.proofs.Escapes.{scan_from_written, written_from_scan}
 use Rattle.enf_value.proofs.Numerals.{all_digits, behind_digits, front_digits, range_from_digit, test_from_range}
 use Rattle.enf_value.proofs.TextTokens.{text_begins, token_from_written, written_from_token}

@@ -1,11 +1,7 @@
 -- The blanks and comments at a place, and the tokens after them.
-use Rattle.enf_value.proofs.Vocabulary.{◌≡◌, ℕ, zero, suc, ◌+◌, ◌-◌, ◌<◌, ◌≤◌, ◌==◌, Bool}
-use Rattle.enf_value.proofs.Vocabulary.{true, false, List, [], ◌∷◌, ◌++◌, length, drop, slice_index, Option}
-use Rattle.enf_value.proofs.Vocabulary.{None, Some, refl, sym, ap, subst, ◌∙◌, arith, add-zero, length-drop}
-use Rattle.enf_value.proofs.Vocabulary.{length-take, if◌then◌else◌, nat_tests, prefix_len, take_while}
-use Rattle.enf_value.proofs.Vocabulary.{option_to_list, drop-drop, drop-cons, Token, CutPiece, is_blank}
-use Rattle.enf_value.proofs.Vocabulary.{is_comment_byte, lexeme_at, piece_at, token_piece, tokens_at, tokens_from}
-use Rattle.enf_value.proofs.Vocabulary.{BeginsToken, IsFrontToken, IsTokenAt, token_of}
+use Rattle.enf_value.proofs.Vocabulary.{◌≡◌, ℕ, zero, suc, ◌+◌, ◌-◌, ◌<◌, ◌≤◌, ◌==◌, Bool, true, false, List, [], ◌∷◌, ◌++◌, length, drop, slice_index, Option, None, Some, refl, sym, ap, subst, ◌∙◌}
+use Rattle.enf_value.proofs.Vocabulary.{arith, add-zero, length-drop, length-take, if◌then◌else◌, nat_tests, prefix_len, take_while, option_to_list, drop-drop, drop-cons, Token, CutPiece, is_blank}
+use Rattle.enf_value.proofs.Vocabulary.{is_comment_byte, lexeme_at, piece_at, token_piece, tokens_at, tokens_from, BeginsToken, IsFrontToken, IsTokenAt, token_of}
 use Rattle.std.proofs.Common.{map}
 use Rattle.enf_value.specs.declared.tokens.Token.{Token as Read}
 use Rattle.enf_value.proofs.Fronts.{front_is_within}

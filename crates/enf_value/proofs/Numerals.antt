@@ -1,15 +1,9 @@
 -- The number tokens at the front of bytes, and what `parse` makes of them.
-use Rattle.enf_value.proofs.Vocabulary.{◌≡◌, ◌≢◌, ℕ, ◌<◌, ◌≤◌, ◌+◌, ◌-◌, ◌*◌}
-use Rattle.enf_value.proofs.Vocabulary.{◌^◌, ◌==◌, ℤ, pos, negsuc, neg_ℤ, Bool, true, false, cond, inl, inr}
-use Rattle.enf_value.proofs.Vocabulary.{List, [], ◌∷◌, ◌++◌, length, get_or, slice_index, take, drop, refl}
-use Rattle.enf_value.proofs.Vocabulary.{sym, ap, subst, ◌∙◌, true≢false, arith, if◌then◌else◌, suc, zero}
-use Rattle.enf_value.proofs.Vocabulary.{FitsSigned, add-zero, zero-add, Result, Ok, Err, None, MatchResult}
-use Rattle.enf_value.proofs.Vocabulary.{is_ascii_digit, digit_value, prefix_len, result_ok, IsAscii, IsUtf8, AllDigits}
-use Rattle.enf_value.proofs.Vocabulary.{IsNumeral, digits_value, signed_digits_value, without_leading_sign}
-use Rattle.enf_value.proofs.Vocabulary.{without_leading_plus, ParsesSigned, eqb-true, nat_tests, digits_value_more}
-use Rattle.enf_value.proofs.Vocabulary.{get_or-drop, length-take-le, take-append-drop, take-append-le, Ok-from_Ok_iff}
-use Rattle.enf_value.proofs.Vocabulary.{OkIff-at_ok, IsUtf8-from_ascii, digits_value-take-le, take-append_seam}
-use Rattle.enf_value.proofs.Vocabulary.{IsAscii-from_digits, IsNumberToken, IsNoDigit, ValueTokenAt, IsNumberValue, Num}
+use Rattle.enf_value.proofs.Vocabulary.{◌≡◌, ◌≢◌, ℕ, ◌<◌, ◌≤◌, ◌+◌, ◌-◌, ◌*◌, ◌^◌, ◌==◌, ℤ, pos, negsuc, neg_ℤ, Bool, true, false, cond, inl, inr, List, [], ◌∷◌, ◌++◌, length, get_or, slice_index}
+use Rattle.enf_value.proofs.Vocabulary.{take, drop, refl, sym, ap, subst, ◌∙◌, true≢false, arith, if◌then◌else◌, suc, zero, FitsSigned, add-zero, zero-add, Result, Ok, Err, None, MatchResult}
+use Rattle.enf_value.proofs.Vocabulary.{is_ascii_digit, digit_value, prefix_len, result_ok, IsAscii, IsUtf8, AllDigits, IsNumeral, digits_value, signed_digits_value, without_leading_sign}
+use Rattle.enf_value.proofs.Vocabulary.{without_leading_plus, ParsesSigned, eqb-true, nat_tests, digits_value_more, get_or-drop, length-take-le, take-append-drop, take-append-le, Ok-from_Ok_iff}
+use Rattle.enf_value.proofs.Vocabulary.{OkIff-at_ok, IsUtf8-from_ascii, digits_value-take-le, take-append_seam, IsAscii-from_digits, IsNumberToken, IsNoDigit, ValueTokenAt, IsNumberValue, Num}
 use Rattle.std.specs.Int.{w64}
 use Rattle.std.proofs.lemmas.List.{length-drop}
 

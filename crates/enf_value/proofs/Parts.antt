@@ -1,8 +1,6 @@
 -- Fronts of a text that were appended before memory ran out.
-use Rattle.enf_value.proofs.Vocabulary.{◌≡◌, ℕ, ◌+◌, ◌<◌, ◌≤◌, List, [], ◌∷◌, ◌++◌}
-use Rattle.enf_value.proofs.Vocabulary.{get_or, length, take, drop, sym, ap, subst, ◌∙◌, append_assoc, append-nil}
-use Rattle.enf_value.proofs.Vocabulary.{length-take-le, take-append-drop, take_min, take_more, take-append-add}
-use Rattle.enf_value.proofs.Vocabulary.{flat_map-append, flat_map, prefix_len, is_of_kind, AppendsPart, Plain, escaped}
+use Rattle.enf_value.proofs.Vocabulary.{◌≡◌, ℕ, ◌+◌, ◌<◌, ◌≤◌, List, [], ◌∷◌, ◌++◌, get_or, length, take, drop, sym, ap, subst, ◌∙◌, append_assoc, append-nil, length-take-le, take-append-drop}
+use Rattle.enf_value.proofs.Vocabulary.{take_min, take_more, take-append-add, flat_map-append, flat_map, prefix_len, is_of_kind, AppendsPart, Plain, escaped}
 use Rattle.std.proofs.Common.{take_while}
 use Rattle.std.proofs.lemmas.List.{length-take}
 use Rattle.enf_value.proofs.SpellingLaws.{escaped-front}

@@ -1,18 +1,11 @@
 -- What is spelled at the front of bytes: at most one token as long as it can be, which is the lexeme there where its value fits.
-use Rattle.enf_value.proofs.Vocabulary.{◌≡◌, ℕ, zero, suc, ◌+◌, ◌^◌, ◌<◌, ◌≤◌, ◌==◌}
-use Rattle.enf_value.proofs.Vocabulary.{nat_lt, nat_le, ◌&&◌, Bool, true, false, cond, List, [], ◌∷◌}
-use Rattle.enf_value.proofs.Vocabulary.{◌++◌, length, slice_index, take, drop, Option, None, Some, ◌⊎◌, inl}
-use Rattle.enf_value.proofs.Vocabulary.{inr, refl, sym, ap, subst, ◌∙◌, arith, if◌then◌else◌, append_assoc}
-use Rattle.enf_value.proofs.Vocabulary.{length-append, is_ascii_digit, list_all, prefix_len, take_while, AllDigits}
-use Rattle.enf_value.proofs.Vocabulary.{IsNumeral, digits_value, eqb-true, and_parts, nat_tests, take-append-drop}
-use Rattle.enf_value.proofs.Vocabulary.{length-prefix_len, is_word, is_word_byte, is_word_start, Token, WordToken}
-use Rattle.enf_value.proofs.Vocabulary.{NumberToken, NegativeToken, TextToken, SymbolToken, WrongToken, begins_with}
-use Rattle.enf_value.proofs.Vocabulary.{lexeme_at, mark_at, mark_lexeme, mark_text, text_front, text_lexeme}
-use Rattle.enf_value.proofs.Vocabulary.{wrong_lexeme, IsTextToken, IsTextValue, is_text_value, SpellsToken, IsProper}
-use Rattle.enf_value.proofs.Vocabulary.{WrittenTextAt, Mark as AnyMark, le_from_true, lt_from_true}
+use Rattle.enf_value.proofs.Vocabulary.{◌≡◌, ℕ, zero, suc, ◌+◌, ◌^◌, ◌<◌, ◌≤◌, ◌==◌, nat_lt, nat_le, ◌&&◌, Bool, true, false, cond, List, [], ◌∷◌, ◌++◌, length, slice_index, take, drop, Option, None}
+use Rattle.enf_value.proofs.Vocabulary.{Some, ◌⊎◌, inl, inr, refl, sym, ap, subst, ◌∙◌, arith, if◌then◌else◌, append_assoc, length-append, is_ascii_digit, list_all, prefix_len, take_while, AllDigits}
+use Rattle.enf_value.proofs.Vocabulary.{IsNumeral, digits_value, eqb-true, and_parts, nat_tests, take-append-drop, length-prefix_len, is_word, is_word_byte, is_word_start, Token, WordToken}
+use Rattle.enf_value.proofs.Vocabulary.{NumberToken, NegativeToken, TextToken, SymbolToken, WrongToken, begins_with, lexeme_at, mark_at, mark_lexeme, mark_text, text_front, text_lexeme, wrong_lexeme}
+use Rattle.enf_value.proofs.Vocabulary.{IsTextToken, IsTextValue, is_text_value, SpellsToken, IsProper, WrittenTextAt, Mark as AnyMark, le_from_true, lt_from_true}
 use Rattle.enf_value.proofs.Escapes.{scan_from_written, written_from_scan}
-use Rattle.enf_value.proofs.Fronts.{digit_lexeme, front_is_word, front_numeral, lexeme_by, minus_lexeme, start_is_byte}
-use Rattle.enf_value.proofs.Fronts.{text_from_test, text_test, word_front, digit_no_word}
+use Rattle.enf_value.proofs.Fronts.{digit_lexeme, front_is_word, front_numeral, lexeme_by, minus_lexeme, start_is_byte, text_from_test, text_test, word_front, digit_no_word}
 use Rattle.enf_value.proofs.Numerals.{range_from_digit, test_from_range}
 use Rattle.enf_value.proofs.TextTokens.{written_from_text}
 use Rattle.enf_value.specs.declared.tokens.Mark.TheVariants as marks

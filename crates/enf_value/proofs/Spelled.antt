@@ -1,16 +1,10 @@
 -- The canonical spelling of a token is cut as that token.
-use Rattle.enf_value.proofs.Vocabulary.{◌≡◌, ℕ, ◌+◌, ◌^◌, ◌<◌, ◌==◌, ◌&&◌, Bool, true}
-use Rattle.enf_value.proofs.Vocabulary.{false, cond, List, [], ◌∷◌, ◌++◌, length, drop, None, Some, refl, sym}
-use Rattle.enf_value.proofs.Vocabulary.{ap, subst, ◌∙◌, arith, decimal, is_ascii_digit, list_all, take_while}
-use Rattle.enf_value.proofs.Vocabulary.{IsNumeral, digits_value, nat_tests, decimal_is_IsNumeral, take_while-cons}
-use Rattle.enf_value.proofs.Vocabulary.{drop-append_seam, or_parts, and_parts, is_word_byte, is_word_start, quoted}
-use Rattle.enf_value.proofs.Vocabulary.{IsNoDigit, ValueTokenAt, Token, WordToken, NumberToken, NegativeToken}
-use Rattle.enf_value.proofs.Vocabulary.{TextToken, SymbolToken, WrongToken, begins_with, negative_lexeme, token_piece}
-use Rattle.enf_value.proofs.Vocabulary.{tokens_from, word_lexeme, IsProper, BeginsToken, IsFrontToken, PrintedIsCut}
-use Rattle.enf_value.proofs.Vocabulary.{SpelledIsRead, SpellsToken, StopsBefore, goes_on_with_mark, printed_tokens}
-use Rattle.enf_value.proofs.Vocabulary.{token_spelling, Mark as AnyMark}
-use Rattle.enf_value.proofs.Fronts.{digits_are_front, front_from_text, front_is_within, negative_is_front}
-use Rattle.enf_value.proofs.Fronts.{start_is_byte, word_front}
+use Rattle.enf_value.proofs.Vocabulary.{◌≡◌, ℕ, ◌+◌, ◌^◌, ◌<◌, ◌==◌, ◌&&◌, Bool, true, false, cond, List, [], ◌∷◌, ◌++◌, length, drop, None, Some, refl, sym, ap, subst, ◌∙◌, arith, decimal}
+use Rattle.enf_value.proofs.Vocabulary.{is_ascii_digit, list_all, take_while, IsNumeral, digits_value, nat_tests, decimal_is_IsNumeral, take_while-cons, drop-append_seam, or_parts, and_parts}
+use Rattle.enf_value.proofs.Vocabulary.{is_word_byte, is_word_start, quoted, IsNoDigit, ValueTokenAt, Token, WordToken, NumberToken, NegativeToken, TextToken, SymbolToken, WrongToken, begins_with}
+use Rattle.enf_value.proofs.Vocabulary.{negative_lexeme, token_piece, tokens_from, word_lexeme, IsProper, BeginsToken, IsFrontToken, PrintedIsCut, SpelledIsRead, SpellsToken, StopsBefore}
+use Rattle.enf_value.proofs.Vocabulary.{goes_on_with_mark, printed_tokens, token_spelling, Mark as AnyMark}
+use Rattle.enf_value.proofs.Fronts.{digits_are_front, front_from_text, front_is_within, negative_is_front, start_is_byte, word_front}
 use Rattle.enf_value.proofs.Gaps.{front_step}
 use Rattle.enf_value.proofs.Numerals.{range_from_digit, test_from_range}
 use Rattle.enf_value.proofs.ValueTokenLaws.{is_printed}

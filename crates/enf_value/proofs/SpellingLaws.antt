@@ -1,10 +1,7 @@
 -- The laws of what is spelled.
-use Rattle.enf_value.proofs.Vocabulary.{Value, arith, refl, subst, sym, nat_tests, take_while-cons, flat_map}
-use Rattle.enf_value.proofs.Vocabulary.{take_while, option_to_list, map, Plain, token_spelling, value_token, is_of_kind}
-use Rattle.enf_value.proofs.Vocabulary.{CutPiece, TokenAtPlace, tokens_from, is_blank, is_comment_byte, lexeme_at}
-use Rattle.enf_value.proofs.Vocabulary.{token_piece, escaped, spelled}
-use Rattle.std.specs.Prelude.{◌≡◌, ℕ, true, [], ◌∷◌, Bool, false, cond, List, ◌++◌, pos, negsuc}
-use Rattle.std.specs.Prelude.{◌-◌, ◌+◌, ◌==◌, length, None, if◌then◌else◌}
+use Rattle.enf_value.proofs.Vocabulary.{Value, arith, refl, subst, sym, nat_tests, take_while-cons, flat_map, take_while, option_to_list, map, Plain, token_spelling, value_token, is_of_kind, CutPiece}
+use Rattle.enf_value.proofs.Vocabulary.{TokenAtPlace, tokens_from, is_blank, is_comment_byte, lexeme_at, token_piece, escaped, spelled}
+use Rattle.std.specs.Prelude.{◌≡◌, ℕ, true, [], ◌∷◌, Bool, false, cond, List, ◌++◌, pos, negsuc, ◌-◌, ◌+◌, ◌==◌, length, None, if◌then◌else◌}
 use Rattle.enf_data.specs.declared.values.Value.TheVariants as values
 
 -- a byte that stands for itself is spelled as it is

@@ -1,10 +1,7 @@
 -- The tokens at the front of bytes: a quote begins a text and no number, and tokens stand at a place as they stand at the front of what follows it.
-use Rattle.enf_value.proofs.Vocabulary.{◌≡◌, ◌≢◌, ℕ, ◌+◌, ◌-◌, ℤ, inl, inr, List, [], ◌∷◌}
-use Rattle.enf_value.proofs.Vocabulary.{◌++◌, length, slice_index, take, drop, refl, sym, ap, subst, ◌∙◌}
-use Rattle.enf_value.proofs.Vocabulary.{arith, append_assoc, length-append, length-drop, Option, Some, None}
-use Rattle.enf_value.proofs.Vocabulary.{MatchOption, IfNone, Result, Ok, Err, IfOk, ◌≤◌, length-take, IsSomeAnd}
-use Rattle.enf_value.proofs.Vocabulary.{IsAscii, nat_tests, take_all, IsUtf8-from_ascii, IsTextValue, IsNumberToken}
-use Rattle.enf_value.proofs.Vocabulary.{IsTextToken, ValueTokenAt, WrittenTextAt, MOST_TEXT_BYTES, Value, Num, Text}
+use Rattle.enf_value.proofs.Vocabulary.{◌≡◌, ◌≢◌, ℕ, ◌+◌, ◌-◌, ℤ, inl, inr, List, [], ◌∷◌, ◌++◌, length, slice_index, take, drop, refl, sym, ap, subst, ◌∙◌, arith, append_assoc, length-append}
+use Rattle.enf_value.proofs.Vocabulary.{length-drop, Option, Some, None, MatchOption, IfNone, Result, Ok, Err, IfOk, ◌≤◌, length-take, IsSomeAnd, IsAscii, nat_tests, take_all, IsUtf8-from_ascii}
+use Rattle.enf_value.proofs.Vocabulary.{IsTextValue, IsNumberToken, IsTextToken, ValueTokenAt, WrittenTextAt, MOST_TEXT_BYTES, Value, Num, Text}
 use Rattle.enf_value.proofs.Escapes.{one_written}
 
 pub token_from_written : (bytes text : List ℕ) (quote : ℕ) → slice_index bytes 0 ≡ 34 → WrittenTextAt (drop 1 bytes) quote text → IsTextValue text → ValueTokenAt bytes 0 (quote + 2) (Text text)

@@ -1,9 +1,7 @@
 -- What the reader reads at a place is the token there.
-use Rattle.enf_value.proofs.Vocabulary.{◌≡◌, ℕ, ◌+◌, ◌-◌, ◌<◌, ◌==◌, ℤ, true, false, cond}
-use Rattle.enf_value.proofs.Vocabulary.{List, [], ◌∷◌, length, slice_index, take, drop, None, Some, sym, ap}
-use Rattle.enf_value.proofs.Vocabulary.{subst, ◌∙◌, arith, length-drop, unsigned_abs, nat_tests, is_word_start}
-use Rattle.enf_value.proofs.Vocabulary.{NumberToken, NegativeToken, WrongToken, mark_lexeme, token_piece, ValueTokenAt}
-use Rattle.enf_value.proofs.Vocabulary.{IsFrontToken, IsMarkAt, IsTokenAt, begins_value, Value}
+use Rattle.enf_value.proofs.Vocabulary.{◌≡◌, ℕ, ◌+◌, ◌-◌, ◌<◌, ◌==◌, ℤ, true, false, cond, List, [], ◌∷◌, length, slice_index, take, drop, None, Some, sym, ap, subst, ◌∙◌, arith, length-drop}
+use Rattle.enf_value.proofs.Vocabulary.{unsigned_abs, nat_tests, is_word_start, NumberToken, NegativeToken, WrongToken, mark_lexeme, token_piece, ValueTokenAt, IsFrontToken, IsMarkAt, IsTokenAt}
+use Rattle.enf_value.proofs.Vocabulary.{begins_value, Value}
 use Rattle.enf_value.proofs.Fronts.{front_from_number, front_from_text, mark_front, number_token, wrong_from_none}
 use Rattle.enf_value.proofs.Gaps.{text_at}
 use Rattle.enf_value.proofs.TextTokens.{slice_from, token_at_front, token_at_place}

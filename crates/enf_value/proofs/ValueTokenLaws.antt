@@ -1,15 +1,11 @@
 -- What is printed is a token, one token begins at a place, and it is the longest.
-use Rattle.enf_value.proofs.Vocabulary.{◌≡◌, ℕ, ◌<◌, ◌==◌, ℤ, pos, negsuc, neg_ℤ, Bool, true, false}
-use Rattle.enf_value.proofs.Vocabulary.{inl, inr, List, [], ◌∷◌, ◌++◌, length, slice_index, drop, refl, sym}
-use Rattle.enf_value.proofs.Vocabulary.{ap, subst, ◌∙◌, arith, suc, if◌then◌else◌, Some, digit_value}
-use Rattle.enf_value.proofs.Vocabulary.{flat_map, signed_decimal, AllDigits, eqb-true, eqb-false, decimal_is_IsNumeral}
-use Rattle.enf_value.proofs.Vocabulary.{cancel_front, escaped, spelled, IsNumberToken, IsValueToken, IsWrittenByte}
-use Rattle.enf_value.proofs.Vocabulary.{IsWrittenText, IsNoDigit, ValueTokenAt, EndsBefore, IsNumberValue, IsValue}
-use Rattle.enf_value.proofs.Vocabulary.{PrintedIsToken, OneTokenAtPlace, TokenIsLongest, Value, Num, Text}
+use Rattle.enf_value.proofs.Vocabulary.{◌≡◌, ℕ, ◌<◌, ◌==◌, ℤ, pos, negsuc, neg_ℤ, Bool, true, false, inl, inr, List, [], ◌∷◌, ◌++◌, length, slice_index, drop, refl, sym, ap, subst, ◌∙◌, arith, suc}
+use Rattle.enf_value.proofs.Vocabulary.{if◌then◌else◌, Some, digit_value, flat_map, signed_decimal, AllDigits, eqb-true, eqb-false, decimal_is_IsNumeral, cancel_front, escaped, spelled, IsNumberToken}
+use Rattle.enf_value.proofs.Vocabulary.{IsValueToken, IsWrittenByte, IsWrittenText, IsNoDigit, ValueTokenAt, EndsBefore, IsNumberValue, IsValue, PrintedIsToken, OneTokenAtPlace, TokenIsLongest, Value}
+use Rattle.enf_value.proofs.Vocabulary.{Num, Text}
 use Rattle.enf_value.proofs.Escapes.{one_written}
 use Rattle.enf_value.proofs.Numerals.{front_is, value_of_token, range_from_digit}
-use Rattle.enf_value.proofs.TextTokens.{token_at_front, written_from_text, written_from_token, number_begins}
-use Rattle.enf_value.proofs.TextTokens.{number_first, text_begins}
+use Rattle.enf_value.proofs.TextTokens.{token_at_front, written_from_text, written_from_token, number_begins, number_first, text_begins}
 
 number_printed : (number : ℤ) → IsNumberValue number → IsNumberToken (signed_decimal number) number
 number_printed (pos n) small =

@@ -1,11 +1,7 @@
 -- The words in which the proofs of this crate speak: those of std, of the crates below and of its own specs.
-pub use Rattle.std.proofs.Common.{Bool, Err, FitsSigned, IfNone, IfOk, IsTrue, List, MatchOption, MatchResult, None, Ok}
-pub use Rattle.std.proofs.Common.{OnErr, Option, Result, Some, [], add-zero, ap, append-nil, append_assoc, ap₂, arith}
-pub use Rattle.std.proofs.Common.{cond, decimal, drop, false, get_or, if◌then◌else◌, inl, inr, length}
-pub use Rattle.std.proofs.Common.{length-append, length-drop, length-take, nat_le, nat_lt, neg_ℤ, negsuc, pos, refl}
-pub use Rattle.std.proofs.Common.{slice_index, subst, suc, sym, take, true, true≢false, w64, zero, zero-add, ℕ, ℤ}
-pub use Rattle.std.proofs.Common.{◌&&◌, ◌*◌, ◌++◌, ◌+◌, ◌-◌, ◌<◌, ◌==◌, ◌^◌, ◌||◌}
-pub use Rattle.std.proofs.Common.{◌∙◌, ◌∷◌, ◌≡◌, ◌≢◌, ◌≤◌, ◌⊎◌}
+pub use Rattle.std.proofs.Common.{Bool, Err, FitsSigned, IfNone, IfOk, IsTrue, List, MatchOption, MatchResult, None, Ok, OnErr, Option, Result, Some, [], add-zero, ap, append-nil, append_assoc, ap₂}
+pub use Rattle.std.proofs.Common.{arith, cond, decimal, drop, false, get_or, if◌then◌else◌, inl, inr, length, length-append, length-drop, length-take, nat_le, nat_lt, neg_ℤ, negsuc, pos, refl}
+pub use Rattle.std.proofs.Common.{slice_index, subst, suc, sym, take, true, true≢false, w64, zero, zero-add, ℕ, ℤ, ◌&&◌, ◌*◌, ◌++◌, ◌+◌, ◌-◌, ◌<◌, ◌==◌, ◌^◌, ◌||◌, ◌∙◌, ◌∷◌, ◌≡◌, ◌≢◌, ◌≤◌, ◌⊎◌}
 pub use Rattle.std.proofs.Math.Facts.{to_z-of_z, to_z_pos}
 pub use Rattle.std.proofs.Math.ListN.{drop_of_length-le}
 pub use Rattle.std.proofs.Math.Seq.{drop-append_seam, drop-cons, take-append-add, take-append_seam}
@@ -13,8 +9,7 @@ pub use Rattle.std.proofs.lemmas.Bool.{and_parts, eqb-false, eqb-true, false≢t
 pub use Rattle.std.proofs.lemmas.Bool.Decides.{nat_tests}
 pub use Rattle.std.proofs.lemmas.Fmt.{IsAscii-from_digits, decimal_digit, decimal_is_IsNumeral, length-decimal-le}
 pub use Rattle.std.proofs.lemmas.Int.Digits.{digits_value_more}
-pub use Rattle.std.proofs.lemmas.List.{drop-drop, drop_all, get_or-drop, length-take-le, take-append-drop}
-pub use Rattle.std.proofs.lemmas.List.{take-append-le, take-take, take_all, take_min, take_more}
+pub use Rattle.std.proofs.lemmas.List.{drop-drop, drop_all, get_or-drop, length-take-le, take-append-drop, take-append-le, take-take, take_all, take_min, take_more}
 pub use Rattle.std.proofs.lemmas.List.Concat.{flat_map-append}
 pub use Rattle.std.proofs.lemmas.List.Folds.{length-prefix_len}
 pub use Rattle.std.proofs.lemmas.List.Sums.{take_while-cons}
@@ -29,10 +24,8 @@ pub use Rattle.std.specs.Option.{IsSomeAnd, option_to_list}
 pub use Rattle.std.specs.Prelude.{OnOk, map, unsigned_abs}
 pub use Rattle.std.specs.Result.{result_ok}
 pub use Rattle.std.specs.Str.{IsAscii, IsUtf8}
-pub use Rattle.std.specs.Str.Parse.{AllDigits, IsNumeral, ParsesSigned, digits_value, signed_digits_value}
-pub use Rattle.std.specs.Str.Parse.{without_leading_plus, without_leading_sign}
-pub use Rattle.enf_data.proofs.ListFacts.{cancel_front, front_passes, le_from_true, lt_from_true, ok_some, on_err_from}
-pub use Rattle.enf_data.proofs.ListFacts.{true_from_le, true_from_lt}
+pub use Rattle.std.specs.Str.Parse.{AllDigits, IsNumeral, ParsesSigned, digits_value, signed_digits_value, without_leading_plus, without_leading_sign}
+pub use Rattle.enf_data.proofs.ListFacts.{cancel_front, front_passes, le_from_true, lt_from_true, ok_some, on_err_from, true_from_le, true_from_lt}
 pub use Rattle.enf_data.specs.declared.limits.TheConstants.{MOST_TEXT_BYTES}
 pub use Rattle.enf_data.specs.declared.values.Value.{Value}
 pub use Rattle.enf_data.specs.declared.values.Value.TheVariants.{Num, Text}
@@ -40,22 +33,13 @@ pub use Rattle.enf_data.specs.meaning.Texts.{IsTextValue, is_text_value}
 pub use Rattle.enf_data.specs.meaning.Values.{IsNumberValue, IsValue}
 pub use Rattle.enf_value.specs.declared.names.ByteKind.TheVariants.{Plain}
 pub use Rattle.enf_value.specs.declared.tokens.Mark.{Mark}
-pub use Rattle.enf_value.specs.machine.Laws.{OneCut, OneTokenAtPlace, PrintedIsCut, PrintedIsToken, SpelledIsRead}
-pub use Rattle.enf_value.specs.machine.Laws.{TextsAreCut, TokenIsLongest}
-pub use Rattle.enf_value.specs.machine.PrintedTokens.{StopsBefore, goes_on_with_mark, printed_tokens, token_spelling}
-pub use Rattle.enf_value.specs.machine.PrintedTokens.{value_token}
-pub use Rattle.enf_value.specs.machine.TokenCuts.{AreCut, BlankGap, ClosedGap, CommentGap, CommentToEnd, IsInComment}
-pub use Rattle.enf_value.specs.machine.TokenCuts.{IsLastTokenGap, IsLongestToken, IsTokenGap, IsWrongAt, NoGap}
-pub use Rattle.enf_value.specs.machine.TokenCuts.{SpellsToken, StandsBehindGap}
-pub use Rattle.enf_value.specs.machine.TokenViews.{BeginsToken, IsFrontToken, IsMarkAt, IsProper, IsTokenAt}
-pub use Rattle.enf_value.specs.machine.TokenViews.{begins_value, token_of}
+pub use Rattle.enf_value.specs.machine.Laws.{OneCut, OneTokenAtPlace, PrintedIsCut, PrintedIsToken, SpelledIsRead, TextsAreCut, TokenIsLongest}
+pub use Rattle.enf_value.specs.machine.PrintedTokens.{StopsBefore, goes_on_with_mark, printed_tokens, token_spelling, value_token}
+pub use Rattle.enf_value.specs.machine.TokenCuts.{AreCut, BlankGap, ClosedGap, CommentGap, CommentToEnd, IsInComment, IsLastTokenGap, IsLongestToken, IsTokenGap, IsWrongAt, NoGap, SpellsToken}
+pub use Rattle.enf_value.specs.machine.TokenCuts.{StandsBehindGap}
+pub use Rattle.enf_value.specs.machine.TokenViews.{BeginsToken, IsFrontToken, IsMarkAt, IsProper, IsTokenAt, begins_value, token_of}
 pub use Rattle.enf_value.specs.machine.ValueCalls.{AppendsPart, WrittenTextAt, is_of_kind}
-pub use Rattle.enf_value.specs.meaning.Tokens.{CutPiece, EndsBefore, IsNoDigit, IsNumberToken, IsTextToken}
-pub use Rattle.enf_value.specs.meaning.Tokens.{IsValueToken, IsWrittenByte, IsWrittenText, Lexeme, NegativeToken}
-pub use Rattle.enf_value.specs.meaning.Tokens.{NumberToken, SymbolToken, TextToken, Token, TokenAtPlace, ValueTokenAt}
-pub use Rattle.enf_value.specs.meaning.Tokens.{WordToken, WrongToken, begins_with, digits_lexeme, escape_meaning}
-pub use Rattle.enf_value.specs.meaning.Tokens.{escaped, is_blank, is_comment_byte, is_word, is_word_byte, is_word_start}
-pub use Rattle.enf_value.specs.meaning.Tokens.{lexeme_at, mark_at, mark_lexeme, mark_text, negative_lexeme, piece_at}
-pub use Rattle.enf_value.specs.meaning.Tokens.{quoted, spelled, text_front, text_lexeme, token_piece, tokens, tokens_at}
-pub use Rattle.enf_value.specs.meaning.Tokens.{tokens_from, with_backslash, with_byte, with_escape, word_lexeme}
-pub use Rattle.enf_value.specs.meaning.Tokens.{wrong_lexeme}
+pub use Rattle.enf_value.specs.meaning.Tokens.{CutPiece, EndsBefore, IsNoDigit, IsNumberToken, IsTextToken, IsValueToken, IsWrittenByte, IsWrittenText, Lexeme, NegativeToken, NumberToken, SymbolToken}
+pub use Rattle.enf_value.specs.meaning.Tokens.{TextToken, Token, TokenAtPlace, ValueTokenAt, WordToken, WrongToken, begins_with, digits_lexeme, escape_meaning, escaped, is_blank, is_comment_byte}
+pub use Rattle.enf_value.specs.meaning.Tokens.{is_word, is_word_byte, is_word_start, lexeme_at, mark_at, mark_lexeme, mark_text, negative_lexeme, piece_at, quoted, spelled, text_front, text_lexeme}
+pub use Rattle.enf_value.specs.meaning.Tokens.{token_piece, tokens, tokens_at, tokens_from, with_backslash, with_byte, with_escape, word_lexeme, wrong_lexeme}

@@ -1,7 +1,6 @@
 -- Words are ASCII, so they are UTF-8.
-use Rattle.enf_value.proofs.Vocabulary.{◌≡◌, ℕ, ◌<◌, true, List, [], ◌∷◌, arith, list_all, IsAscii}
-use Rattle.enf_value.proofs.Vocabulary.{IsUtf8, nat_tests, IsUtf8-from_ascii, IsAscii-nil, IsAscii-cons, and_parts}
-use Rattle.enf_value.proofs.Vocabulary.{is_word, is_word_byte, is_word_start}
+use Rattle.enf_value.proofs.Vocabulary.{◌≡◌, ℕ, ◌<◌, true, List, [], ◌∷◌, arith, list_all, IsAscii, IsUtf8, nat_tests, IsUtf8-from_ascii, IsAscii-nil, IsAscii-cons, and_parts, is_word, is_word_byte}
+use Rattle.enf_value.proofs.Vocabulary.{is_word_start}
 
 byte_ascii : (byte : ℕ) → is_word_byte byte ≡ true → byte < 128
 byte_ascii byte e = grind (arith, nat_tests)

@@ -1,10 +1,7 @@
 -- Each policy is accepted or refused, and has one refusal at most.
-use Rattle.enforce_types.proofs.Vocabulary.{◌≡◌, ◌≢◌, ◌⊎◌, List, inl, inr, refl, sym, ap, subst}
-use Rattle.enforce_types.proofs.Vocabulary.{◌∙◌, VarId, Formula, Plan, AcceptedPlansStay, ArePlansAnswered}
-use Rattle.enforce_types.proofs.Vocabulary.{OneReason, AreAccepted, RefusesPlans, RankRefusal, NameEntry, HasRefusal}
-use Rattle.enforce_types.proofs.Vocabulary.{IsAccepted, HasPlansWith, ArePlanned, RefusesPolicy, IsFirstRefusal}
-use Rattle.enforce_types.proofs.Vocabulary.{type_refusal_of_plans, type_refusal_of_rule, Refusal, TypeRefusal}
-use Rattle.enforce_types.proofs.Vocabulary.{RoleClash, Untriggered, Cyclic, NoMemory}
+use Rattle.enforce_types.proofs.Vocabulary.{◌≡◌, ◌≢◌, ◌⊎◌, List, inl, inr, refl, sym, ap, subst, ◌∙◌, VarId, Formula, Plan, AcceptedPlansStay, ArePlansAnswered, OneReason, AreAccepted, RefusesPlans}
+use Rattle.enforce_types.proofs.Vocabulary.{RankRefusal, NameEntry, HasRefusal, IsAccepted, HasPlansWith, ArePlanned, RefusesPolicy, IsFirstRefusal, type_refusal_of_plans, type_refusal_of_rule}
+use Rattle.enforce_types.proofs.Vocabulary.{Refusal, TypeRefusal, RoleClash, Untriggered, Cyclic, NoMemory}
 use Rattle.enforce_types.specs.declared.refusals.TypeRefusal.TheVariants.{Unguarded, NotEnforceable}
 use Rattle.enforce_types.proofs.PolicyLemmas.{answered, not_both, one_plans, one_refusal}
 use Rattle.rank_check.specs.declared.rank_answers.RankRefusal.TheVariants as plans

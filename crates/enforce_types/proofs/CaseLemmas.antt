@@ -1,7 +1,6 @@
 -- What guards and tests of small formulas ask.
-use Rattle.enforce_types.proofs.Vocabulary.{◌≡◌, ℕ, [], ◌∷◌, Contains, ⊎_elim, subst, Term, Var, VarId}
-use Rattle.enforce_types.proofs.Vocabulary.{variable_x, Not, here, later, first_or_later, none_in_nil, IsTest}
-use Rattle.enforce_types.proofs.Vocabulary.{IsGuardFor, var_y, p_at, q_at, p_x_at, p_x_y_at, once_p, once_q}
+use Rattle.enforce_types.proofs.Vocabulary.{◌≡◌, ℕ, [], ◌∷◌, Contains, ⊎_elim, subst, Term, Var, VarId, variable_x, Not, here, later, first_or_later, none_in_nil, IsTest, IsGuardFor, var_y, p_at}
+use Rattle.enforce_types.proofs.Vocabulary.{q_at, p_x_at, p_x_y_at, once_p, once_q}
 
 -- without terms no variable is free
 pub closed : (z : VarId) → Contains {X = Term} [] (Var z) → Contains [] z

@@ -1,11 +1,7 @@
 -- The names that a formula of a policy looks for are those of the signature.
-use Rattle.enforce_types.proofs.Vocabulary.{◌≡◌, ℕ, ◌+◌, ◌<◌, Bool, IsTrue, List, [], ◌∷◌}
-use Rattle.enforce_types.proofs.Vocabulary.{◌++◌, length, Option, None, Some, refl, subst, slice_get, option_map}
-use Rattle.enforce_types.proofs.Vocabulary.{option_or, slice_get_within, AllByRecursion-append}
-use Rattle.enforce_types.proofs.Vocabulary.{AllByRecursion-of_append, NameId, Formula, True, False, Atom, Equal, Less}
-use Rattle.enforce_types.proofs.Vocabulary.{AtMost, Not, And, Or, Implies, Exists, Forall, Prev, Next, Once}
-use Rattle.enforce_types.proofs.Vocabulary.{Historically, Since, Eventually, Always, Until, IsPolicyFormula, AreBelow}
-use Rattle.enforce_types.proofs.Vocabulary.{names_in_formula, of_each, triggers, NameEntry, has_mark}
+use Rattle.enforce_types.proofs.Vocabulary.{◌≡◌, ℕ, ◌+◌, ◌<◌, Bool, IsTrue, List, [], ◌∷◌, ◌++◌, length, Option, None, Some, refl, subst, slice_get, option_map, option_or, slice_get_within}
+use Rattle.enforce_types.proofs.Vocabulary.{AllByRecursion-append, AllByRecursion-of_append, NameId, Formula, True, False, Atom, Equal, Less, AtMost, Not, And, Or, Implies, Exists, Forall, Prev, Next}
+use Rattle.enforce_types.proofs.Vocabulary.{Once, Historically, Since, Eventually, Always, Until, IsPolicyFormula, AreBelow, names_in_formula, of_each, triggers, NameEntry, has_mark}
 
 mapped_within : (A : Type 0) (f : NameEntry → A) (entries : List NameEntry) (k : ℕ) (found : Option NameEntry) (a : A) → slice_get entries k ≡ found → option_map f found ≡ Some a → k < length entries
 mapped_within A f entries k (Some entry) a at is = slice_get_within entries k entry at

@@ -1,10 +1,7 @@
 -- Sorts that fit where variables were found before fit where fewer were; whether a value fits is not left open.
-use Rattle.enforce_types.proofs.Vocabulary.{Term, Var, Const, VarId, Valuation, ◌⊎◌, inl, inr, ⊎_elim, List}
-use Rattle.enforce_types.proofs.Vocabulary.{◌≡◌, refl, Formula, True, False, Atom, Equal, Less, AtMost, Not, And}
-use Rattle.enforce_types.proofs.Vocabulary.{Or, Implies, Exists, Forall, Prev, Next, Once, Historically, Since}
-use Rattle.enforce_types.proofs.Vocabulary.{Eventually, Always, Until, Classically, NameEntry, Sort, Int, Text}
-use Rattle.enforce_types.proofs.Vocabulary.{value_sort, IsBoundIn, NoneBound, TakesSort, Besides, InfersSort, SortsFit}
-use Rattle.enforce_types.proofs.Vocabulary.{ValueFits}
+use Rattle.enforce_types.proofs.Vocabulary.{Term, Var, Const, VarId, Valuation, ◌⊎◌, inl, inr, ⊎_elim, List, ◌≡◌, refl, Formula, True, False, Atom, Equal, Less, AtMost, Not, And, Or, Implies, Exists}
+use Rattle.enforce_types.proofs.Vocabulary.{Forall, Prev, Next, Once, Historically, Since, Eventually, Always, Until, Classically, NameEntry, Sort, Int, Text, value_sort, IsBoundIn, NoneBound}
+use Rattle.enforce_types.proofs.Vocabulary.{TakesSort, Besides, InfersSort, SortsFit, ValueFits}
 
 -- ---- less that was found before
 

@@ -1,12 +1,8 @@
 -- Each guard and test of a policy stands at its number.
-use Rattle.enforce_types.proofs.Vocabulary.{◌≡◌, ℕ, List, [], ◌∷◌, ◌++◌, length, map, Some, Contains}
-use Rattle.enforce_types.proofs.Vocabulary.{⊎_elim, refl, sym, ap, subst, ◌∙◌, AllByRecursion, flat_map}
-use Rattle.enforce_types.proofs.Vocabulary.{slice_get, option_map, map-append, Contains-append_left}
-use Rattle.enforce_types.proofs.Vocabulary.{Contains-append_right, slice_get-map, slice_get_read}
-use Rattle.enforce_types.proofs.Vocabulary.{AllByRecursion-from_contains, first_or_later, here, later, none_in_nil}
-use Rattle.enforce_types.proofs.Vocabulary.{VarId, Formula, Plan, CausePlan, SuppressPlan, Both, Either, TestOr}
-use Rattle.enforce_types.proofs.Vocabulary.{Guarded, EventuallyPlan, AlwaysPlan, UntilPlan, NextPlan, guards_of_plan}
-use Rattle.enforce_types.proofs.Vocabulary.{NameEntry, GuardsAreListed, guard_numbers, ArePlanned}
+use Rattle.enforce_types.proofs.Vocabulary.{◌≡◌, ℕ, List, [], ◌∷◌, ◌++◌, length, map, Some, Contains, ⊎_elim, refl, sym, ap, subst, ◌∙◌, AllByRecursion, flat_map, slice_get, option_map, map-append}
+use Rattle.enforce_types.proofs.Vocabulary.{Contains-append_left, Contains-append_right, slice_get-map, slice_get_read, AllByRecursion-from_contains, first_or_later, here, later, none_in_nil, VarId}
+use Rattle.enforce_types.proofs.Vocabulary.{Formula, Plan, CausePlan, SuppressPlan, Both, Either, TestOr, Guarded, EventuallyPlan, AlwaysPlan, UntilPlan, NextPlan, guards_of_plan, NameEntry}
+use Rattle.enforce_types.proofs.Vocabulary.{GuardsAreListed, guard_numbers, ArePlanned}
 use Rattle.enforce_types.proofs.PolicyLemmas.{guard_places}
 
 abbrev Guard : Type 0

@@ -1,19 +1,12 @@
 -- Each node of a plan that is made for a formula of a policy keeps to what is asked of plans.
-use Rattle.enforce_types.proofs.Vocabulary.{◌≡◌, ℕ, ◌+◌, ◌≤◌, Bool, true, false, IsTrue, List, []}
-use Rattle.enforce_types.proofs.Vocabulary.{◌++◌, length, Option, Some, Ok, Contains, ◌⊎◌, ⊎_elim, refl}
-use Rattle.enforce_types.proofs.Vocabulary.{sym, ap, subst, ◌∙◌, arith, append_assoc, append-nil}
-use Rattle.enforce_types.proofs.Vocabulary.{Contains-append_left, variable_cmp, NameId, MOST_INTERVAL_END, VarId}
-use Rattle.enforce_types.proofs.Vocabulary.{Formula, Atom, Not, And, Or, Implies, Exists, Forall, Next, Eventually}
-use Rattle.enforce_types.proofs.Vocabulary.{Always, Until, IsFree, formula_place, free_in_scope, scoped_fresh}
-use Rattle.enforce_types.proofs.Vocabulary.{IsScopedFormula, formula_size, IsPolicyFormula, FreeWithin, GuardBindsFresh}
-use Rattle.enforce_types.proofs.Vocabulary.{EndsInTime, OfGuard, EndsLater, LooksBelow, Plan, Both, Either, TestOr}
-use Rattle.enforce_types.proofs.Vocabulary.{Guarded, AtEach, IsScopedNode, EndsFit, NameEntry, LeafWhere}
-use Rattle.enforce_types.proofs.Vocabulary.{ImplicationAnswer, Exclusion, Elab, Aim, Up, Down, UpForAll, renumber}
-use Rattle.enforce_types.proofs.Vocabulary.{FillsColumns}
+use Rattle.enforce_types.proofs.Vocabulary.{◌≡◌, ℕ, ◌+◌, ◌≤◌, Bool, true, false, IsTrue, List, [], ◌++◌, length, Option, Some, Ok, Contains, ◌⊎◌, ⊎_elim, refl, sym, ap, subst, ◌∙◌, arith}
+use Rattle.enforce_types.proofs.Vocabulary.{append_assoc, append-nil, Contains-append_left, variable_cmp, NameId, MOST_INTERVAL_END, VarId, Formula, Atom, Not, And, Or, Implies, Exists, Forall, Next}
+use Rattle.enforce_types.proofs.Vocabulary.{Eventually, Always, Until, IsFree, formula_place, free_in_scope, scoped_fresh, IsScopedFormula, formula_size, IsPolicyFormula, FreeWithin, GuardBindsFresh}
+use Rattle.enforce_types.proofs.Vocabulary.{EndsInTime, OfGuard, EndsLater, LooksBelow, Plan, Both, Either, TestOr, Guarded, AtEach, IsScopedNode, EndsFit, NameEntry, LeafWhere, ImplicationAnswer}
+use Rattle.enforce_types.proofs.Vocabulary.{Exclusion, Elab, Aim, Up, Down, UpForAll, renumber, FillsColumns}
 use Rattle.std.specs.List.Sorted.{IsStrictlySortedBy}
 use Rattle.enforce_types.proofs.FormulaNames.{names_below}
-use Rattle.enforce_types.proofs.MadePlans.{by_made, by_one, by_two, by_one_of_two, by_exclusion, by_implication}
-use Rattle.enforce_types.proofs.MadePlans.{with_end, from_now, not_refused}
+use Rattle.enforce_types.proofs.MadePlans.{by_made, by_one, by_two, by_one_of_two, by_exclusion, by_implication, with_end, from_now, not_refused}
 use Rattle.plan_terms.specs.meaning.Plans as plan
 
 abbrev Rising : List VarId → Type 0

@@ -1,9 +1,7 @@
 -- What holds of a plan that a rule makes, where it holds of each plan that the rule can make.
-use Rattle.enforce_types.proofs.Vocabulary.{◌≡◌, ◌<◌, arith, ℕ, zero, suc, Bool, true, false, List, []}
-use Rattle.enforce_types.proofs.Vocabulary.{◌++◌, Option, None, Some, Ok, Err, Contains, refl, subst, VarId}
-use Rattle.enforce_types.proofs.Vocabulary.{Formula, And, Not, formula_place, IsTest, Plan, Either, TestOr, Guarded}
-use Rattle.enforce_types.proofs.Vocabulary.{Answer, LeafWhere, OverOne, OverTwo, OneOfTwo, IsGuardFor}
-use Rattle.enforce_types.proofs.Vocabulary.{ImplicationAnswer, Exclusion, WithEnd, FromNow, Refusal}
+use Rattle.enforce_types.proofs.Vocabulary.{◌≡◌, ◌<◌, arith, ℕ, zero, suc, Bool, true, false, List, [], ◌++◌, Option, None, Some, Ok, Err, Contains, refl, subst, VarId, Formula, And, Not}
+use Rattle.enforce_types.proofs.Vocabulary.{formula_place, IsTest, Plan, Either, TestOr, Guarded, Answer, LeafWhere, OverOne, OverTwo, OneOfTwo, IsGuardFor, ImplicationAnswer, Exclusion, WithEnd}
+use Rattle.enforce_types.proofs.Vocabulary.{FromNow, Refusal}
 
 pub made_is : (p q : Plan) → ◌≡◌ {A = Answer} (Ok p) (Ok q) → q ≡ p
 made_is p q e = cc

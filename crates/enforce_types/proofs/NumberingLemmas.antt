@@ -1,10 +1,7 @@
 -- How many nodes there are, and where numbers stand.
-use Rattle.enforce_types.proofs.Vocabulary.{◌≡◌, ℕ, zero, suc, ◌+◌, ◌≤◌, List, [], ◌∷◌}
-use Rattle.enforce_types.proofs.Vocabulary.{◌++◌, length, Some, arith, refl, ap, subst, flat_map, slice_get}
-use Rattle.enforce_types.proofs.Vocabulary.{length-append, VarId, nodes, node_number, formula_for, Plan, CausePlan}
-use Rattle.enforce_types.proofs.Vocabulary.{SuppressPlan, Both, Either, TestOr, Guarded, EventuallyPlan, AlwaysPlan}
-use Rattle.enforce_types.proofs.Vocabulary.{UntilPlan, NextPlan, GuardsAreSafe, IsSafeNode, AtEach, node_count}
-use Rattle.enforce_types.proofs.Vocabulary.{guard_count, guard_numbers, renumber, renumber_all}
+use Rattle.enforce_types.proofs.Vocabulary.{◌≡◌, ℕ, zero, suc, ◌+◌, ◌≤◌, List, [], ◌∷◌, ◌++◌, length, Some, arith, refl, ap, subst, flat_map, slice_get, length-append, VarId, nodes, node_number}
+use Rattle.enforce_types.proofs.Vocabulary.{formula_for, Plan, CausePlan, SuppressPlan, Both, Either, TestOr, Guarded, EventuallyPlan, AlwaysPlan, UntilPlan, NextPlan, GuardsAreSafe, IsSafeNode}
+use Rattle.enforce_types.proofs.Vocabulary.{AtEach, node_count, guard_count, guard_numbers, renumber, renumber_all}
 
 pub has_node : (p : Plan) → 1 ≤ node_count p
 has_node (CausePlan node place name terms) = omega arith

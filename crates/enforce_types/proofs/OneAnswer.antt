@@ -1,12 +1,8 @@
 -- Each rule gives one answer, where the rules below it give one each.
-use Rattle.enforce_types.proofs.Vocabulary.{◌≡◌, ℕ, zero, suc, Bool, true, false, List, [], ◌∷◌, ◌++◌}
-use Rattle.enforce_types.proofs.Vocabulary.{Option, None, Some, Ok, Err, inl, inr, Contains, refl, ap, ◌∙◌}
-use Rattle.enforce_types.proofs.Vocabulary.{NameId, VarId, Formula, Atom, Not, And, Or, Implies, Exists, Forall, Next}
-use Rattle.enforce_types.proofs.Vocabulary.{Eventually, Always, Until, formula_place, IsFree, among_or_not, Safe}
-use Rattle.enforce_types.proofs.Vocabulary.{IsTest, Plan, Either, TestOr, Guarded, Answer, IsRefusedAt, LeafWhere}
-use Rattle.enforce_types.proofs.Vocabulary.{OverOne, OverTwo, WithEnd, FromNow, OneOfTwo, IsGuardFor, ImplicationAnswer}
-use Rattle.enforce_types.proofs.Vocabulary.{Exclusion, Elab, Aim, Up, Down, UpForAll, Refusal, Unguarded}
-use Rattle.enforce_types.proofs.Vocabulary.{NotEnforceable, IsOnlyAnswer}
+use Rattle.enforce_types.proofs.Vocabulary.{◌≡◌, ℕ, zero, suc, Bool, true, false, List, [], ◌∷◌, ◌++◌, Option, None, Some, Ok, Err, inl, inr, Contains, refl, ap, ◌∙◌, NameId, VarId, Formula, Atom}
+use Rattle.enforce_types.proofs.Vocabulary.{Not, And, Or, Implies, Exists, Forall, Next, Eventually, Always, Until, formula_place, IsFree, among_or_not, Safe, IsTest, Plan, Either, TestOr, Guarded}
+use Rattle.enforce_types.proofs.Vocabulary.{Answer, IsRefusedAt, LeafWhere, OverOne, OverTwo, WithEnd, FromNow, OneOfTwo, IsGuardFor, ImplicationAnswer, Exclusion, Elab, Aim, Up, Down, UpForAll}
+use Rattle.enforce_types.proofs.Vocabulary.{Refusal, Unguarded, NotEnforceable, IsOnlyAnswer}
 use Rattle.enforce_types.proofs.SafeDecisions.{Decided, test_or_not, safe_or_not, all_free_or_not}
 
 abbrev pub IsOne : (Answer → Type 0) → Type 0

@@ -1,10 +1,7 @@
 -- From what a plan is made of to the rule that it follows.
-use Rattle.enforce_types.proofs.Vocabulary.{◌≡◌, ℕ, zero, suc, Option, None, Some, refl, subst, Bool, true}
-use Rattle.enforce_types.proofs.Vocabulary.{false, IsTrue, Result, Ok, Err, IfOk, IsErrAnd, List, [], ◌∷◌}
-use Rattle.enforce_types.proofs.Vocabulary.{◌++◌, Contains, ◌↔◌, sym, true≢false, ◌∙◌, ok_or, VarId}
-use Rattle.enforce_types.proofs.Vocabulary.{Formula, IsFree, Safe, IsTest, Plan, plan_of, Answer, FromNow, IsGuardFor}
-use Rattle.enforce_types.proofs.Vocabulary.{ImplicationAnswer, WithEnd, GivesAnswer, GivesRefusal, denied_where}
-use Rattle.enforce_types.proofs.Vocabulary.{positive_end, positive_end_from, test_answer, Refusal, TypeRefusal}
+use Rattle.enforce_types.proofs.Vocabulary.{◌≡◌, ℕ, zero, suc, Option, None, Some, refl, subst, Bool, true, false, IsTrue, Result, Ok, Err, IfOk, IsErrAnd, List, [], ◌∷◌, ◌++◌, Contains, ◌↔◌, sym}
+use Rattle.enforce_types.proofs.Vocabulary.{true≢false, ◌∙◌, ok_or, VarId, Formula, IsFree, Safe, IsTest, Plan, plan_of, Answer, FromNow, IsGuardFor, ImplicationAnswer, WithEnd, GivesAnswer}
+use Rattle.enforce_types.proofs.Vocabulary.{GivesRefusal, denied_where, positive_end, positive_end_from, test_answer, Refusal, TypeRefusal}
 use Rattle.plan_terms.specs.declared.plans.Plan.{Plan as Stored}
 use Rattle.enforce_types.specs.declared.refusals.Refusal.TheVariants as rule
 use Rattle.enforce_types.specs.declared.refusals.TypeRefusal.TheVariants as code

@@ -1,15 +1,9 @@
 -- The plans of a policy that was read keep to the limits, and their names are those of the signature.
-use Rattle.enforce_types.proofs.Vocabulary.{◌≡◌, ℕ, ◌+◌, ◌<◌, ◌≤◌, IsTrue, List, [], ◌∷◌}
-use Rattle.enforce_types.proofs.Vocabulary.{length, Option, None, Some, inl, inr, sym, subst, arith, AllByRecursion}
-use Rattle.enforce_types.proofs.Vocabulary.{AllZip, flat_map, AllByRecursion-append, AllByRecursion-contains}
-use Rattle.enforce_types.proofs.Vocabulary.{AllByRecursion-weaker, NameId, MOST_NAMES, MOST_NODES, VarId, Formula}
-use Rattle.enforce_types.proofs.Vocabulary.{formula_size, Rule, IsWellFormedPolicy, IsWellFormedRule, IsCaused}
-use Rattle.enforce_types.proofs.Vocabulary.{IsSuppressed, caused_at, caused_below, suppressed_at, suppressed_below}
-use Rattle.enforce_types.proofs.Vocabulary.{nodes, Plan, guard_triggers, AllEndLater, EndsLater, EndsInTime}
-use Rattle.enforce_types.proofs.Vocabulary.{IsSmallPlan, AreBelow, AtEach-nodes, AtEach-weaker, ArePlansWithinLimits}
-use Rattle.enforce_types.proofs.Vocabulary.{AreTriggersBelow, AreNamesBelow, NameEntry, Up, is_causable}
-use Rattle.enforce_types.proofs.Vocabulary.{is_suppressible, ArePlanned, HasPlan, node_count, guard_count, renumber}
-use Rattle.enforce_types.proofs.Vocabulary.{renumber_all, FillsColumns, formulas_of}
+use Rattle.enforce_types.proofs.Vocabulary.{◌≡◌, ℕ, ◌+◌, ◌<◌, ◌≤◌, IsTrue, List, [], ◌∷◌, length, Option, None, Some, inl, inr, sym, subst, arith, AllByRecursion, AllZip, flat_map}
+use Rattle.enforce_types.proofs.Vocabulary.{AllByRecursion-append, AllByRecursion-contains, AllByRecursion-weaker, NameId, MOST_NAMES, MOST_NODES, VarId, Formula, formula_size, Rule}
+use Rattle.enforce_types.proofs.Vocabulary.{IsWellFormedPolicy, IsWellFormedRule, IsCaused, IsSuppressed, caused_at, caused_below, suppressed_at, suppressed_below, nodes, Plan, guard_triggers}
+use Rattle.enforce_types.proofs.Vocabulary.{AllEndLater, EndsLater, EndsInTime, IsSmallPlan, AreBelow, AtEach-nodes, AtEach-weaker, ArePlansWithinLimits, AreTriggersBelow, AreNamesBelow, NameEntry}
+use Rattle.enforce_types.proofs.Vocabulary.{Up, is_causable, is_suppressible, ArePlanned, HasPlan, node_count, guard_count, renumber, renumber_all, FillsColumns, formulas_of}
 use Rattle.std.specs.List.Sorted.{IsStrictlySortedBy}
 use Rattle.enforce_types.proofs.FormulaNames.{marked_within, triggers_below}
 use Rattle.enforce_types.proofs.MadeNodes.{AreFine, IsFine, IsGiven, MayBeDone, fine_stays, made_fine}

@@ -1,14 +1,9 @@
 -- A plan means what the formula means that it makes true, and the denial of what it makes false.
-use Rattle.enforce_types.proofs.Vocabulary.{◌≡◌, ℕ, ◌+◌, Bool, List, [], ◌∷◌, ◌++◌, length, take}
-use Rattle.enforce_types.proofs.Vocabulary.{drop, Some, Ok, arith, refl, sym, subst, NameId, Interval, Step, VarId}
-use Rattle.enforce_types.proofs.Vocabulary.{Value, Valuation, with_values, length-append, length-take-le, length-drop}
-use Rattle.enforce_types.proofs.Vocabulary.{take-append-drop, Formula, Atom, Not, And, Or, Implies, Exists, Forall}
-use Rattle.enforce_types.proofs.Vocabulary.{Next, Eventually, Always, Until, Sat, HoldsUntil, HoldsAnywhere, IsStable}
-use Rattle.enforce_types.proofs.Vocabulary.{AreEquivalent, formula_for, interval_from_to, Plan, Elab, Aim, Up, Down}
-use Rattle.enforce_types.proofs.Vocabulary.{UpForAll}
+use Rattle.enforce_types.proofs.Vocabulary.{◌≡◌, ℕ, ◌+◌, Bool, List, [], ◌∷◌, ◌++◌, length, take, drop, Some, Ok, arith, refl, sym, subst, NameId, Interval, Step, VarId, Value, Valuation, with_values}
+use Rattle.enforce_types.proofs.Vocabulary.{length-append, length-take-le, length-drop, take-append-drop, Formula, Atom, Not, And, Or, Implies, Exists, Forall, Next, Eventually, Always, Until, Sat}
+use Rattle.enforce_types.proofs.Vocabulary.{HoldsUntil, HoldsAnywhere, IsStable, AreEquivalent, formula_for, interval_from_to, Plan, Elab, Aim, Up, Down, UpForAll}
 use Rattle.enforce_types.proofs.MadePlans.{not_refused, with_end, from_now}
-use Rattle.enforce_types.proofs.RuleMeaning.{leaf_keeps, one_keeps, two_keep, one_of_two_keeps, exclusion_keeps}
-use Rattle.enforce_types.proofs.RuleMeaning.{implication_keeps}
+use Rattle.enforce_types.proofs.RuleMeaning.{leaf_keeps, one_keeps, two_keep, one_of_two_keeps, exclusion_keeps, implication_keeps}
 use Rattle.std.specs.FinMap as map
 use Rattle.plan_terms.specs.meaning.Plans as plan
 

@@ -1,11 +1,8 @@
 -- A plan has at most as many nodes as its formula.
-use Rattle.enforce_types.proofs.Vocabulary.{ℕ, ◌+◌, ◌≤◌, Bool, List, [], ◌++◌, length, Ok, arith}
-use Rattle.enforce_types.proofs.Vocabulary.{length-append, NameId, VarId, Formula, Atom, Not, And, Or, Implies, Exists}
-use Rattle.enforce_types.proofs.Vocabulary.{Forall, Next, Eventually, Always, Until, formula_size, nodes, Plan, Answer}
-use Rattle.enforce_types.proofs.Vocabulary.{LeafWhere, OverOne, OverTwo, OneOfTwo, ImplicationAnswer, Exclusion, Elab}
-use Rattle.enforce_types.proofs.Vocabulary.{Aim, Up, Down, UpForAll, node_count, guard_count, guard_numbers}
-use Rattle.enforce_types.proofs.MadePlans.{by_leaf, by_one, by_two, by_one_of_two, by_exclusion, by_implication}
-use Rattle.enforce_types.proofs.MadePlans.{not_refused, with_end, from_now}
+use Rattle.enforce_types.proofs.Vocabulary.{ℕ, ◌+◌, ◌≤◌, Bool, List, [], ◌++◌, length, Ok, arith, length-append, NameId, VarId, Formula, Atom, Not, And, Or, Implies, Exists, Forall, Next, Eventually}
+use Rattle.enforce_types.proofs.Vocabulary.{Always, Until, formula_size, nodes, Plan, Answer, LeafWhere, OverOne, OverTwo, OneOfTwo, ImplicationAnswer, Exclusion, Elab, Aim, Up, Down, UpForAll}
+use Rattle.enforce_types.proofs.Vocabulary.{node_count, guard_count, guard_numbers}
+use Rattle.enforce_types.proofs.MadePlans.{by_leaf, by_one, by_two, by_one_of_two, by_exclusion, by_implication, not_refused, with_end, from_now}
 use Rattle.plan_terms.specs.meaning.Plans as plan
 
 small_leaf : (may : Bool) (place : ℕ) (l p : Plan) → LeafWhere may place l (Ok p) → node_count l ≤ 1 → node_count p ≤ 1

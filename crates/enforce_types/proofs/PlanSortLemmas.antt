@@ -1,19 +1,11 @@
 -- Plans keep to the sorts of the formulas that they are made of.
-use Rattle.enforce_types.proofs.Vocabulary.{◌≡◌, ◌∙◌, ℕ, ◌+◌, ◌⊎◌, inl, inr, ⊎_elim, Bool}
-use Rattle.enforce_types.proofs.Vocabulary.{List, [], ◌∷◌, ◌++◌, Option, None, Some, Ok, Contains, sym, ap}
-use Rattle.enforce_types.proofs.Vocabulary.{subst, AllByRecursion, AllZip, append-nil, Contains-append_left}
-use Rattle.enforce_types.proofs.Vocabulary.{Contains-append_right, Contains-append, none_in_nil, with_values, NameId}
-use Rattle.enforce_types.proofs.Vocabulary.{VarId, BindsFresh, IsClosed, Formula, Atom, Not, And, Or, Implies, Exists}
-use Rattle.enforce_types.proofs.Vocabulary.{Forall, Next, Eventually, Always, Until, IsFree, formula_place}
-use Rattle.enforce_types.proofs.Vocabulary.{among_or_not, value_at-with_outside, NoneBound, Safe, SafeBelow}
-use Rattle.enforce_types.proofs.Vocabulary.{BoundOrFreeIn, Plan, Guarded, AtEach, Rule, IsWellFormedPolicy}
-use Rattle.enforce_types.proofs.Vocabulary.{IsWellFormedRule, NameEntry, Sort, Answer, IsGuardFor, ImplicationAnswer}
-use Rattle.enforce_types.proofs.Vocabulary.{Exclusion, Elab, Aim, Up, Down, UpForAll, is_causable, is_suppressible}
-use Rattle.enforce_types.proofs.Vocabulary.{ArePlanned, HasPlan, renumber_all, guard_count, renumber, GivesSorts}
-use Rattle.enforce_types.proofs.Vocabulary.{KeepsSorts, PlanKeepsSorts, formulas_of, Besides, SortsFit, InfersSort}
-use Rattle.enforce_types.proofs.Vocabulary.{HasVarSorts}
-use Rattle.enforce_types.proofs.MadePlans.{by_exclusion, by_implication, by_leaf, by_one, by_one_of_two, by_two}
-use Rattle.enforce_types.proofs.MadePlans.{not_refused, with_end, from_now}
+use Rattle.enforce_types.proofs.Vocabulary.{◌≡◌, ◌∙◌, ℕ, ◌+◌, ◌⊎◌, inl, inr, ⊎_elim, Bool, List, [], ◌∷◌, ◌++◌, Option, None, Some, Ok, Contains, sym, ap, subst, AllByRecursion, AllZip, append-nil}
+use Rattle.enforce_types.proofs.Vocabulary.{Contains-append_left, Contains-append_right, Contains-append, none_in_nil, with_values, NameId, VarId, BindsFresh, IsClosed, Formula, Atom, Not, And, Or}
+use Rattle.enforce_types.proofs.Vocabulary.{Implies, Exists, Forall, Next, Eventually, Always, Until, IsFree, formula_place, among_or_not, value_at-with_outside, NoneBound, Safe, SafeBelow}
+use Rattle.enforce_types.proofs.Vocabulary.{BoundOrFreeIn, Plan, Guarded, AtEach, Rule, IsWellFormedPolicy, IsWellFormedRule, NameEntry, Sort, Answer, IsGuardFor, ImplicationAnswer, Exclusion, Elab}
+use Rattle.enforce_types.proofs.Vocabulary.{Aim, Up, Down, UpForAll, is_causable, is_suppressible, ArePlanned, HasPlan, renumber_all, guard_count, renumber, GivesSorts, KeepsSorts, PlanKeepsSorts}
+use Rattle.enforce_types.proofs.Vocabulary.{formulas_of, Besides, SortsFit, InfersSort, HasVarSorts}
+use Rattle.enforce_types.proofs.MadePlans.{by_exclusion, by_implication, by_leaf, by_one, by_one_of_two, by_two, not_refused, with_end, from_now}
 use Rattle.enforce_types.proofs.NumberingLemmas.{each_stays}
 use Rattle.enforce_types.proofs.FoundSorts.{VarsUnder, fit_under, nothing_under}
 use Rattle.enforce_types.proofs.SortLemmas.{finds, fits}

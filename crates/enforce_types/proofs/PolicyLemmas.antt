@@ -1,13 +1,9 @@
 -- From each formula of a policy to the policy.
-use Rattle.enforce_types.proofs.Vocabulary.{◌≡◌, ◌⊎◌, ℕ, ◌+◌, List, [], ◌∷◌, Some, Ok, Err, inl}
-use Rattle.enforce_types.proofs.Vocabulary.{inr, refl, sym, ap, subst, ◌∙◌, AllByRecursion, AllZip, flat_map}
-use Rattle.enforce_types.proofs.Vocabulary.{slice_get, Step, VarId, Valuation, Formula, Sat, IsStable, AreEquivalent}
-use Rattle.enforce_types.proofs.Vocabulary.{AllByRecursion-append, CanBeEvaluated, OfGuard, GuardsAreSafe, IsSafeNode}
-use Rattle.enforce_types.proofs.Vocabulary.{IsNumberedPlan, all_guards, guards_of_plan, Plan, CausePlan, SuppressPlan}
-use Rattle.enforce_types.proofs.Vocabulary.{Both, Either, TestOr, Guarded, EventuallyPlan, AlwaysPlan, UntilPlan}
-use Rattle.enforce_types.proofs.Vocabulary.{NextPlan, AtEach-guards, AtEach-weaker, NameEntry, Answer, Up, is_causable}
-use Rattle.enforce_types.proofs.Vocabulary.{is_suppressible, RuleAnswer, HasPlan, ArePlanned, guard_count}
-use Rattle.enforce_types.proofs.Vocabulary.{guard_numbers, renumber_all, PlanMeans, IsFirstRefusal, Refusal}
+use Rattle.enforce_types.proofs.Vocabulary.{◌≡◌, ◌⊎◌, ℕ, ◌+◌, List, [], ◌∷◌, Some, Ok, Err, inl, inr, refl, sym, ap, subst, ◌∙◌, AllByRecursion, AllZip, flat_map, slice_get, Step, VarId, Valuation}
+use Rattle.enforce_types.proofs.Vocabulary.{Formula, Sat, IsStable, AreEquivalent, AllByRecursion-append, CanBeEvaluated, OfGuard, GuardsAreSafe, IsSafeNode, IsNumberedPlan, all_guards}
+use Rattle.enforce_types.proofs.Vocabulary.{guards_of_plan, Plan, CausePlan, SuppressPlan, Both, Either, TestOr, Guarded, EventuallyPlan, AlwaysPlan, UntilPlan, NextPlan, AtEach-guards, AtEach-weaker}
+use Rattle.enforce_types.proofs.Vocabulary.{NameEntry, Answer, Up, is_causable, is_suppressible, RuleAnswer, HasPlan, ArePlanned, guard_count, guard_numbers, renumber_all, PlanMeans, IsFirstRefusal}
+use Rattle.enforce_types.proofs.Vocabulary.{Refusal}
 use Rattle.enforce_types.proofs.PlanMeaning.{kept}
 use Rattle.enforce_types.proofs.MadePlans.{made_is, not_refused}
 use Rattle.enforce_types.proofs.NumberingLemmas.{nodes_numbered, guards_numbered, same_formula}

@@ -1,22 +1,13 @@
 -- The rules of a text are sorted: what its second pass finds of sorts fits them.
-use Rattle.enforce_types.proofs.Vocabulary.{◌≡◌, ◌∙◌, ◌⊎◌, ⊎_elim, ℕ, Bool, true, false, cond}
-use Rattle.enforce_types.proofs.Vocabulary.{◌==◌, List, [], ◌∷◌, ◌++◌, length, Option, None, Some, Result}
-use Rattle.enforce_types.proofs.Vocabulary.{Ok, Err, Contains, refl, sym, ap, subst, arith, AllByRecursion, option_map}
-use Rattle.enforce_types.proofs.Vocabulary.{option_or, option_and_then, same_Some, none-some, first_or_later}
-use Rattle.enforce_types.proofs.Vocabulary.{none_in_nil, NameId, Term, Var, Const, VarId, IsBoundIn, NoneBound}
-use Rattle.enforce_types.proofs.Vocabulary.{SyntaxTree, TrueTree, FalseTree, AtomTree, EqualTree, LessTree, AtMostTree}
-use Rattle.enforce_types.proofs.Vocabulary.{NotTree, AndTree, OrTree, ImpliesTree, ExistsTree, ForallTree, PrevTree}
-use Rattle.enforce_types.proofs.Vocabulary.{NextTree, OnceTree, HistoricallyTree, SinceTree, EventuallyTree, AlwaysTree}
-use Rattle.enforce_types.proofs.Vocabulary.{UntilTree, SyntaxRefusal, SyntaxTerm, entry_columns, value_sort}
-use Rattle.enforce_types.proofs.Vocabulary.{name_number, NameEntry, Sort, Int, Text, EventName, Point, SortOf, ThisSort}
-use Rattle.enforce_types.proofs.Vocabulary.{Use, argument_points, binder_points, entry_named, syntax_term_place, points}
-use Rattle.enforce_types.proofs.Vocabulary.{use_of, bound_names, binding_names, term_in, bound_variables_from, Rule}
-use Rattle.enforce_types.proofs.Vocabulary.{formula_in, name_in, rule_in, rule_with, rules_in, terms_in, with_both}
-use Rattle.enforce_types.proofs.Vocabulary.{FollowsFirstPass, IsPolicyAnswer, sort_clash, first_point_refusal}
-use Rattle.enforce_types.proofs.Vocabulary.{for_variable, sort_given, known_after, event_name_refusal, policy_refusal}
-use Rattle.enforce_types.proofs.Vocabulary.{point_refusal, rule_refusal, sort_of_term, MadeOfOne, both_from, one_from}
-use Rattle.enforce_types.proofs.Vocabulary.{or_none, PolicyRefusal, AreTermsOfSort, Besides, FillSorts, SortsFit}
-use Rattle.enforce_types.proofs.Vocabulary.{InfersSort, HasVarSorts, TakesSort, term_sort}
+use Rattle.enforce_types.proofs.Vocabulary.{◌≡◌, ◌∙◌, ◌⊎◌, ⊎_elim, ℕ, Bool, true, false, cond, ◌==◌, List, [], ◌∷◌, ◌++◌, length, Option, None, Some, Result, Ok, Err, Contains, refl, sym, ap, subst}
+use Rattle.enforce_types.proofs.Vocabulary.{arith, AllByRecursion, option_map, option_or, option_and_then, same_Some, none-some, first_or_later, none_in_nil, NameId, Term, Var, Const, VarId}
+use Rattle.enforce_types.proofs.Vocabulary.{IsBoundIn, NoneBound, SyntaxTree, TrueTree, FalseTree, AtomTree, EqualTree, LessTree, AtMostTree, NotTree, AndTree, OrTree, ImpliesTree, ExistsTree}
+use Rattle.enforce_types.proofs.Vocabulary.{ForallTree, PrevTree, NextTree, OnceTree, HistoricallyTree, SinceTree, EventuallyTree, AlwaysTree, UntilTree, SyntaxRefusal, SyntaxTerm, entry_columns}
+use Rattle.enforce_types.proofs.Vocabulary.{value_sort, name_number, NameEntry, Sort, Int, Text, EventName, Point, SortOf, ThisSort, Use, argument_points, binder_points, entry_named}
+use Rattle.enforce_types.proofs.Vocabulary.{syntax_term_place, points, use_of, bound_names, binding_names, term_in, bound_variables_from, Rule, formula_in, name_in, rule_in, rule_with, rules_in}
+use Rattle.enforce_types.proofs.Vocabulary.{terms_in, with_both, FollowsFirstPass, IsPolicyAnswer, sort_clash, first_point_refusal, for_variable, sort_given, known_after, event_name_refusal}
+use Rattle.enforce_types.proofs.Vocabulary.{policy_refusal, point_refusal, rule_refusal, sort_of_term, MadeOfOne, both_from, one_from, or_none, PolicyRefusal, AreTermsOfSort, Besides, FillSorts}
+use Rattle.enforce_types.proofs.Vocabulary.{SortsFit, InfersSort, HasVarSorts, TakesSort, term_sort}
 use Rattle.std.proofs.Common.{slice_get}
 use Rattle.enforce_types.proofs.FoundSorts.{VarsUnder, fit_under, found_under}
 use Rattle.enf_formula.specs.meaning.Satisfaction as tree

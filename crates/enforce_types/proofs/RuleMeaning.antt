@@ -1,8 +1,6 @@
 -- How each rule keeps the meaning.
-use Rattle.enforce_types.proofs.Vocabulary.{◌≡◌, ℕ, Bool, List, [], ◌++◌, length, Ok, refl, sym, subst}
-use Rattle.enforce_types.proofs.Vocabulary.{Step, VarId, Valuation, with_values, Formula, Not, Or, Implies, Forall, Sat}
-use Rattle.enforce_types.proofs.Vocabulary.{IsStable, AreEquivalent, formula_for, Plan, Answer, LeafWhere, OverOne}
-use Rattle.enforce_types.proofs.Vocabulary.{OverTwo, OneOfTwo, ImplicationAnswer, Exclusion}
+use Rattle.enforce_types.proofs.Vocabulary.{◌≡◌, ℕ, Bool, List, [], ◌++◌, length, Ok, refl, sym, subst, Step, VarId, Valuation, with_values, Formula, Not, Or, Implies, Forall, Sat, IsStable}
+use Rattle.enforce_types.proofs.Vocabulary.{AreEquivalent, formula_for, Plan, Answer, LeafWhere, OverOne, OverTwo, OneOfTwo, ImplicationAnswer, Exclusion}
 use Rattle.enforce_types.proofs.MadePlans.{by_exclusion, by_implication, by_leaf, by_one, by_one_of_two, by_two}
 
 -- what is said of the formula of the plan that is made

@@ -1,15 +1,9 @@
 -- Plans one after another.
-use Rattle.enforce_types.proofs.Vocabulary.{◌≡◌, ℕ, ◌+◌, ◌*◌, ◌<◌, ◌≤◌, List, [], ◌∷◌}
-use Rattle.enforce_types.proofs.Vocabulary.{◌++◌, length, take, drop, get_or, Result, Ok, Err, IfErr, IsErrAnd, inl}
-use Rattle.enforce_types.proofs.Vocabulary.{inr, refl, sym, ap, subst, ◌∙◌, arith, append_assoc, All, AllZip}
-use Rattle.enforce_types.proofs.Vocabulary.{get_or-map, length-append, length-map, map-append, take_more}
-use Rattle.enforce_types.proofs.Vocabulary.{take-append-drop, append-nil, All-get_or, VarId, Formula, tree_of}
-use Rattle.enforce_types.proofs.Vocabulary.{formula_size, stored_rule_formulas, plan_of, Plan, CausePlan, SuppressPlan}
-use Rattle.enforce_types.proofs.Vocabulary.{Both, Either, TestOr, Guarded, EventuallyPlan, AlwaysPlan, UntilPlan}
-use Rattle.enforce_types.proofs.Vocabulary.{NextPlan, all_guards, guards_of_plan, MOST_NODES, NameEntry, BoundFormula}
-use Rattle.enforce_types.proofs.Vocabulary.{Elab, Up, is_causable, is_suppressible, RuleAnswer, HasPlan, ArePlanned}
-use Rattle.enforce_types.proofs.Vocabulary.{node_count, guard_count, renumber, renumber_all, GivesRefusal}
-use Rattle.enforce_types.proofs.Vocabulary.{GuardsAreSafe, guard_of, guards_of, IsFirstRefusal, Refusal, TypeRefusal}
+use Rattle.enforce_types.proofs.Vocabulary.{◌≡◌, ℕ, ◌+◌, ◌*◌, ◌<◌, ◌≤◌, List, [], ◌∷◌, ◌++◌, length, take, drop, get_or, Result, Ok, Err, IfErr, IsErrAnd, inl, inr, refl, sym, ap, subst, ◌∙◌, arith}
+use Rattle.enforce_types.proofs.Vocabulary.{append_assoc, All, AllZip, get_or-map, length-append, length-map, map-append, take_more, take-append-drop, append-nil, All-get_or, VarId, Formula, tree_of}
+use Rattle.enforce_types.proofs.Vocabulary.{formula_size, stored_rule_formulas, plan_of, Plan, CausePlan, SuppressPlan, Both, Either, TestOr, Guarded, EventuallyPlan, AlwaysPlan, UntilPlan, NextPlan}
+use Rattle.enforce_types.proofs.Vocabulary.{all_guards, guards_of_plan, MOST_NODES, NameEntry, BoundFormula, Elab, Up, is_causable, is_suppressible, RuleAnswer, HasPlan, ArePlanned, node_count}
+use Rattle.enforce_types.proofs.Vocabulary.{guard_count, renumber, renumber_all, GivesRefusal, GuardsAreSafe, guard_of, guards_of, IsFirstRefusal, Refusal, TypeRefusal}
 use Rattle.formula_reader.specs.declared.policies.Rule.{Rule}
 use Rattle.enforce_types.proofs.OperandLemmas.{refusal_map}
 use Rattle.enforce_types.proofs.PlanSizes.{plan_fits, guards_are_nodes}

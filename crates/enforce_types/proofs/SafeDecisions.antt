@@ -1,11 +1,7 @@
 -- Whether a formula is safe can be decided, where it can be decided which variables are bound.
-use Rattle.enforce_types.proofs.Vocabulary.{◌≡◌, List, [], ◌∷◌, ◌++◌, Option, None, Some, ◌↔◌}
-use Rattle.enforce_types.proofs.Vocabulary.{◌⊎◌, inl, inr, ⊎_elim, Contains, refl, ap, subst, Term, Var, Const}
-use Rattle.enforce_types.proofs.Vocabulary.{VarId, Formula, True, False, Atom, Equal, Less, AtMost, Not, And, Or}
-use Rattle.enforce_types.proofs.Vocabulary.{Implies, Exists, Forall, Prev, Next, Once, Historically, Since, Eventually}
-use Rattle.enforce_types.proofs.Vocabulary.{Always, Until, IsFree, among_or_not, here, later, first_or_later}
-use Rattle.enforce_types.proofs.Vocabulary.{none_in_nil, SafeBelow, FreeWithin, FreeUnder, FreeAlike, BoundOrFreeIn}
-use Rattle.enforce_types.proofs.Vocabulary.{NoneBound, Assigns, IsTest}
+use Rattle.enforce_types.proofs.Vocabulary.{◌≡◌, List, [], ◌∷◌, ◌++◌, Option, None, Some, ◌↔◌, ◌⊎◌, inl, inr, ⊎_elim, Contains, refl, ap, subst, Term, Var, Const, VarId, Formula, True, False, Atom}
+use Rattle.enforce_types.proofs.Vocabulary.{Equal, Less, AtMost, Not, And, Or, Implies, Exists, Forall, Prev, Next, Once, Historically, Since, Eventually, Always, Until, IsFree, among_or_not, here}
+use Rattle.enforce_types.proofs.Vocabulary.{later, first_or_later, none_in_nil, SafeBelow, FreeWithin, FreeUnder, FreeAlike, BoundOrFreeIn, NoneBound, Assigns, IsTest}
 
 -- it holds or it does not
 abbrev pub Decided : Type 0 → Type 0

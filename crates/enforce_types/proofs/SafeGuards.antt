@@ -1,16 +1,10 @@
 -- The guards and tests of a plan are safe where they stand.
-use Rattle.enforce_types.proofs.Vocabulary.{◌≡◌, ℕ, Bool, IsTrue, List, [], ◌++◌, Option, None, Some, Ok}
-use Rattle.enforce_types.proofs.Vocabulary.{◌⊎◌, inl, inr, ⊎_elim, Contains, ap, subst, ◌∙◌, append-nil}
-use Rattle.enforce_types.proofs.Vocabulary.{NameId, Term, Var, Const, VarId, Formula, True, False, Atom, Equal, Less}
-use Rattle.enforce_types.proofs.Vocabulary.{AtMost, Not, And, Or, Implies, Exists, Forall, Prev, Next, Once}
-use Rattle.enforce_types.proofs.Vocabulary.{Historically, Since, Eventually, Always, Until, formula_place, is_past}
-use Rattle.enforce_types.proofs.Vocabulary.{among_or_not, Contains-append, variable_is, safe_past, Safe, SafeBelow}
-use Rattle.enforce_types.proofs.Vocabulary.{IsTest, BoundOrFreeIn, Assigns, Plan, Guarded, Answer, LeafWhere, OverOne}
-use Rattle.enforce_types.proofs.Vocabulary.{OverTwo, OneOfTwo, IsGuardFor, ImplicationAnswer, Exclusion, Elab, Aim, Up}
-use Rattle.enforce_types.proofs.Vocabulary.{Down, UpForAll, GuardsAreSafe}
+use Rattle.enforce_types.proofs.Vocabulary.{◌≡◌, ℕ, Bool, IsTrue, List, [], ◌++◌, Option, None, Some, Ok, ◌⊎◌, inl, inr, ⊎_elim, Contains, ap, subst, ◌∙◌, append-nil, NameId, Term, Var, Const, VarId}
+use Rattle.enforce_types.proofs.Vocabulary.{Formula, True, False, Atom, Equal, Less, AtMost, Not, And, Or, Implies, Exists, Forall, Prev, Next, Once, Historically, Since, Eventually, Always, Until}
+use Rattle.enforce_types.proofs.Vocabulary.{formula_place, is_past, among_or_not, Contains-append, variable_is, safe_past, Safe, SafeBelow, IsTest, BoundOrFreeIn, Assigns, Plan, Guarded, Answer}
+use Rattle.enforce_types.proofs.Vocabulary.{LeafWhere, OverOne, OverTwo, OneOfTwo, IsGuardFor, ImplicationAnswer, Exclusion, Elab, Aim, Up, Down, UpForAll, GuardsAreSafe}
 use Rattle.enforce_types.proofs.SafeDecisions.{AllDecided, with_decided}
-use Rattle.enforce_types.proofs.MadePlans.{by_exclusion, by_implication, by_leaf, by_one, by_one_of_two, by_two}
-use Rattle.enforce_types.proofs.MadePlans.{not_refused, with_end, from_now}
+use Rattle.enforce_types.proofs.MadePlans.{by_exclusion, by_implication, by_leaf, by_one, by_one_of_two, by_two, not_refused, with_end, from_now}
 
 abbrev Within : (VarId → Type 0) → (VarId → Type 0) → Type 0
 Within B C = (x : VarId) → B x → C x

@@ -1,17 +1,10 @@
 -- What a safe formula finds, and the sorts of the values under which it holds.
-use Rattle.enforce_types.proofs.Vocabulary.{◌≡◌, ℕ, ◌-◌, ◌⊎◌, inl, inr, ⊎_elim, List, [], ◌∷◌}
-use Rattle.enforce_types.proofs.Vocabulary.{Option, None, Some, Contains, refl, sym, ap, subst, ◌∙◌, same_Some}
-use Rattle.enforce_types.proofs.Vocabulary.{none-some, step_at, Valuation, value_at, value_of_term, values_of_terms}
-use Rattle.enforce_types.proofs.Vocabulary.{onto_values, with_values, Event, NameId, Step, Term, Var, Const, VarId}
-use Rattle.enforce_types.proofs.Vocabulary.{Value, variable_is, Formula, True, False, Atom, Equal, Less, AtMost, Not}
-use Rattle.enforce_types.proofs.Vocabulary.{And, Or, Implies, Exists, Forall, Prev, Next, Once, Historically, Since}
-use Rattle.enforce_types.proofs.Vocabulary.{Eventually, Always, Until, IsFree, Sat, IsEventAmong, AreSameValues}
-use Rattle.enforce_types.proofs.Vocabulary.{AreSameValues-some, AreSameValues-sym, first_or_later, none_in_nil}
-use Rattle.enforce_types.proofs.Vocabulary.{among_or_not, value_at-with_outside, Assigns, NoneBound, Safe}
-use Rattle.enforce_types.proofs.Vocabulary.{BoundOrFreeIn, BindsFresh, IsBoundIn, FillColumns, FitsSignature}
-use Rattle.enforce_types.proofs.Vocabulary.{entry_columns, value_sort, NameEntry, Sort, Besides, FillSorts, SortsFit}
-use Rattle.enforce_types.proofs.Vocabulary.{InfersSort, TakesSort, TraceFits, ValueFits, term_sort, below_within}
-use Rattle.enforce_types.proofs.Vocabulary.{historically_within}
+use Rattle.enforce_types.proofs.Vocabulary.{◌≡◌, ℕ, ◌-◌, ◌⊎◌, inl, inr, ⊎_elim, List, [], ◌∷◌, Option, None, Some, Contains, refl, sym, ap, subst, ◌∙◌, same_Some, none-some, step_at, Valuation}
+use Rattle.enforce_types.proofs.Vocabulary.{value_at, value_of_term, values_of_terms, onto_values, with_values, Event, NameId, Step, Term, Var, Const, VarId, Value, variable_is, Formula, True, False}
+use Rattle.enforce_types.proofs.Vocabulary.{Atom, Equal, Less, AtMost, Not, And, Or, Implies, Exists, Forall, Prev, Next, Once, Historically, Since, Eventually, Always, Until, IsFree, Sat}
+use Rattle.enforce_types.proofs.Vocabulary.{IsEventAmong, AreSameValues, AreSameValues-some, AreSameValues-sym, first_or_later, none_in_nil, among_or_not, value_at-with_outside, Assigns, NoneBound}
+use Rattle.enforce_types.proofs.Vocabulary.{Safe, BoundOrFreeIn, BindsFresh, IsBoundIn, FillColumns, FitsSignature, entry_columns, value_sort, NameEntry, Sort, Besides, FillSorts, SortsFit}
+use Rattle.enforce_types.proofs.Vocabulary.{InfersSort, TakesSort, TraceFits, ValueFits, term_sort, below_within, historically_within}
 use Rattle.std.specs.Prelude.{slice_get}
 use Rattle.enforce_types.proofs.FoundSorts.{VarsUnder, fit_under, fits_stable, nothing_under}
 

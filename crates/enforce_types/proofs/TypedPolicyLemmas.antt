@@ -1,13 +1,8 @@
 -- From the answers of the calls to that for the policy.
-use Rattle.enforce_types.proofs.Vocabulary.{◌≡◌, ◌≤◌, ℕ, List, [], ◌∷◌, map, length, Result, Ok}
-use Rattle.enforce_types.proofs.Vocabulary.{Err, IsErrAnd, IfErr, refl, ap, subst, sym, All, AllByRecursion, All-cons}
-use Rattle.enforce_types.proofs.Vocabulary.{All-nil, MOST_NAMES, MOST_NODES, Formula, tree_of, formula_size}
-use Rattle.enforce_types.proofs.Vocabulary.{stored_rule_formulas, rule_of, IsWellFormedPolicy, IsWellFormedRule}
-use Rattle.enforce_types.proofs.Vocabulary.{IsNumberedPlan, GuardBindsFresh, plan_of, ArePlansWithinLimits, AreRanked}
-use Rattle.enforce_types.proofs.Vocabulary.{Ranked, AreAccepted, RefusesPlans, RankRefusal, NameEntry, IsFirstRefusal}
-use Rattle.enforce_types.proofs.Vocabulary.{RefusesPolicy, GivesRefusal, type_refusal_of_plans, formulas_of}
-use Rattle.enforce_types.proofs.Vocabulary.{WorkTogether, BoundFormula, guard_of, guards_of, KeepsToSignature}
-use Rattle.enforce_types.proofs.Vocabulary.{ArePlanned, RulePlans, TypeRefusal}
+use Rattle.enforce_types.proofs.Vocabulary.{◌≡◌, ◌≤◌, ℕ, List, [], ◌∷◌, map, length, Result, Ok, Err, IsErrAnd, IfErr, refl, ap, subst, sym, All, AllByRecursion, All-cons, All-nil, MOST_NAMES}
+use Rattle.enforce_types.proofs.Vocabulary.{MOST_NODES, Formula, tree_of, formula_size, stored_rule_formulas, rule_of, IsWellFormedPolicy, IsWellFormedRule, IsNumberedPlan, GuardBindsFresh, plan_of}
+use Rattle.enforce_types.proofs.Vocabulary.{ArePlansWithinLimits, AreRanked, Ranked, AreAccepted, RefusesPlans, RankRefusal, NameEntry, IsFirstRefusal, RefusesPolicy, GivesRefusal}
+use Rattle.enforce_types.proofs.Vocabulary.{type_refusal_of_plans, formulas_of, WorkTogether, BoundFormula, guard_of, guards_of, KeepsToSignature, ArePlanned, RulePlans, TypeRefusal}
 use Rattle.formula_reader.specs.declared.policies.Rule.{Rule}
 use Rattle.plan_terms.specs.declared.plans.Plan.{Plan as StoredPlan}
 use Rattle.enforce_types.proofs.WellFormedPlans.{plans_end_later, plans_formed, plans_kept}

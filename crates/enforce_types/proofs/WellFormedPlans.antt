@@ -1,20 +1,14 @@
 -- The plans of a policy that was read are well-formed with their guards.
-use Rattle.enforce_types.proofs.Vocabulary.{◌≡◌, ℕ, suc, ◌+◌, ◌*◌, ◌<◌, ◌≤◌, ◌^◌, List}
-use Rattle.enforce_types.proofs.Vocabulary.{[], ◌∷◌, length, refl, sym, ap, subst, arith, AllByRecursion, AllZip}
-use Rattle.enforce_types.proofs.Vocabulary.{sum_by, length-map, sum_by-cons, AllZip-long, AllByRecursion-append}
-use Rattle.enforce_types.proofs.Vocabulary.{MOST_NODES, MOST_RULES, VarId, Formula, formula_size, Rule}
-use Rattle.enforce_types.proofs.Vocabulary.{IsWellFormedPolicy, NothingClashes, all_guards, guards_of_plan, nodes, Plan}
-use Rattle.enforce_types.proofs.Vocabulary.{GuardsAreListed, GuardsAreSafe, GuardBindsFresh, IsSafeNode, LooksBack}
-use Rattle.enforce_types.proofs.Vocabulary.{EndsInTime, IsSmallPlan, AreWellFormed, IsWellFormed, IsNumberedPlan}
-use Rattle.enforce_types.proofs.Vocabulary.{OfGuard, AllEndLater, LooksBelow, AtEach, IsScopedNode, AtEach-guards}
-use Rattle.enforce_types.proofs.Vocabulary.{AtEach-weaker, NameEntry, is_causable, is_suppressible, ArePlanned, HasPlan}
-use Rattle.enforce_types.proofs.Vocabulary.{renumber_all, guard_count, KeepsToSignature, formulas_of}
+use Rattle.enforce_types.proofs.Vocabulary.{◌≡◌, ℕ, suc, ◌+◌, ◌*◌, ◌<◌, ◌≤◌, ◌^◌, List, [], ◌∷◌, length, refl, sym, ap, subst, arith, AllByRecursion, AllZip, sum_by, length-map, sum_by-cons}
+use Rattle.enforce_types.proofs.Vocabulary.{AllZip-long, AllByRecursion-append, MOST_NODES, MOST_RULES, VarId, Formula, formula_size, Rule, IsWellFormedPolicy, NothingClashes, all_guards}
+use Rattle.enforce_types.proofs.Vocabulary.{guards_of_plan, nodes, Plan, GuardsAreListed, GuardsAreSafe, GuardBindsFresh, IsSafeNode, LooksBack, EndsInTime, IsSmallPlan, AreWellFormed, IsWellFormed}
+use Rattle.enforce_types.proofs.Vocabulary.{IsNumberedPlan, OfGuard, AllEndLater, LooksBelow, AtEach, IsScopedNode, AtEach-guards, AtEach-weaker, NameEntry, is_causable, is_suppressible, ArePlanned}
+use Rattle.enforce_types.proofs.Vocabulary.{HasPlan, renumber_all, guard_count, KeepsToSignature, formulas_of}
 use Rattle.std.proofs.Common.{length-append}
 use Rattle.enforce_types.proofs.GuardPlaces.{all_listed}
 use Rattle.enforce_types.proofs.MadeNodes.{IsFine}
 use Rattle.enforce_types.proofs.NumberingLemmas.{safe_stays}
-use Rattle.enforce_types.proofs.PlanLimits.{IsFinePlan, all_end_later, all_filled, caused_can, fine_all_nodes}
-use Rattle.enforce_types.proofs.PlanLimits.{planned_fine, suppressed_can}
+use Rattle.enforce_types.proofs.PlanLimits.{IsFinePlan, all_end_later, all_filled, caused_can, fine_all_nodes, planned_fine, suppressed_can}
 use Rattle.enforce_types.proofs.PlanSizes.{guards_are_nodes}
 use Rattle.enforce_types.proofs.RulePlanLemmas.{guards_counted, rule_safe}
 use Rattle.enforce_types.proofs.PolicyLemmas.{in_order}

@@ -215,6 +215,8 @@ fn up_for_all(
     }
 }
 
+// How an implication below `forall`s of these variables is made true: its left side as a guard, else by making that
+// false or the right side true.
 #[cycle(elaboration)]
 fn up_implies(
     alloc: Global,

@@ -28,7 +28,7 @@ pub fn end_of(place: Place, interval: &Interval) -> Result<u64, TypeRefusal>
     end.ok_or(TypeRefusal::NotEnforceable { place })
 }
 
-// The same, where the interval begins at 0; else the formula at the place is refused too.
+// The end of an interval that begins at 0; else the formula at the place is refused too.
 pub fn end_from_zero(place: Place, interval: &Interval) -> Result<u64, TypeRefusal>
     ensures { result ≡ ok_or (positive_end_from interval.now.low interval.now.high) (NotEnforceable place) }
 {

@@ -1,7 +1,7 @@
 //! Plans for the rules of a policy.
 ghost use Rattle.std.specs.Prelude.{◌≡◌, ◌+◌, ◌<◌, ◌≤◌, ◌^◌, ◌++◌, ◌∷◌, [], All};
 ghost use Rattle.std.specs.Prelude.{IfErr, IfOk, OnOk, length, map};
-ghost use Rattle.enf_formula.specs.meaning.FormulaShape.{formula_size};
+ghost use Rattle.enf_formula.specs.machine.FormulaShape.{formula_size};
 ghost use Rattle.plan_terms.specs.meaning.Plans.{guards_of_plan};
 ghost use Rattle.plan_terms.specs.machine.GuardProperties.{guards_of};
 ghost use Rattle.plan_terms.specs.machine.WellFormed.{GuardsAreSafe};

@@ -1,14 +1,9 @@
 -- Classes fall below a node, and after an event that triggers it.
-use Rattle.enforcer_core.proofs.Vocabulary.{◌≡◌, ℕ, zero, suc, ◌+◌, ◌-◌, ◌*◌, ◌<◌, ◌≤◌}
-use Rattle.enforcer_core.proofs.Vocabulary.{List, [], ◌∷◌, ◌++◌, length, map, get_or, Contains, Option, None}
-use Rattle.enforcer_core.proofs.Vocabulary.{Some, length-append, refl, sym, ap, subst, arith, ⊎_elim, flat_map}
-use Rattle.enforcer_core.proofs.Vocabulary.{option_or, Contains-append_left, Contains-append_right, mul-add-lt, mul-le}
-use Rattle.enforcer_core.proofs.Vocabulary.{Contains-append, first_or_later, here, later, none_in_nil}
-use Rattle.enforcer_core.proofs.Vocabulary.{Contains-from_map, Contains-map, NameId, caused_at, caused_below, nodes}
-use Rattle.enforcer_core.proofs.Vocabulary.{Plan, CausePlan, SuppressPlan, Both, Either, TestOr, Guarded}
-use Rattle.enforcer_core.proofs.Vocabulary.{EventuallyPlan, AlwaysPlan, UntilPlan, NextPlan, guard_triggers, IsRank}
-use Rattle.enforcer_core.proofs.Vocabulary.{class_of, greatest, least_rank, least_with, rank_in, plan_size, EdgesRise}
-use Rattle.enforcer_core.proofs.Vocabulary.{Edge, IsCauseNode, IsPath, IsStart, below, path_triggers}
+use Rattle.enforcer_core.proofs.Vocabulary.{◌≡◌, ℕ, zero, suc, ◌+◌, ◌-◌, ◌*◌, ◌<◌, ◌≤◌, List, [], ◌∷◌, ◌++◌, length, map, get_or, Contains, Option, None, Some, length-append, refl, sym, ap, subst}
+use Rattle.enforcer_core.proofs.Vocabulary.{arith, ⊎_elim, flat_map, option_or, Contains-append_left, Contains-append_right, mul-add-lt, mul-le, Contains-append, first_or_later, here, later}
+use Rattle.enforcer_core.proofs.Vocabulary.{none_in_nil, Contains-from_map, Contains-map, NameId, caused_at, caused_below, nodes, Plan, CausePlan, SuppressPlan, Both, Either, TestOr, Guarded}
+use Rattle.enforcer_core.proofs.Vocabulary.{EventuallyPlan, AlwaysPlan, UntilPlan, NextPlan, guard_triggers, IsRank, class_of, greatest, least_rank, least_with, rank_in, plan_size, EdgesRise, Edge}
+use Rattle.enforcer_core.proofs.Vocabulary.{IsCauseNode, IsPath, IsStart, below, path_triggers}
 
 -- ---- the greatest and the least of a list
 

@@ -1,18 +1,12 @@
 -- What is new at an inserted step has lower classes than something that is met there; so counts by class fall.
-use Rattle.enforcer_core.proofs.Vocabulary.{◌≡◌, ℕ, ◌+◌, ◌<◌, ◌≤◌, ◌&&◌, Bool, true, false}
-use Rattle.enforcer_core.proofs.Vocabulary.{cond, List, [], ◌∷◌, ◌++◌, Contains, Option, None, Some, nat_eq}
-use Rattle.enforcer_core.proofs.Vocabulary.{refl, sym, ap, subst, ◌∙◌, arith, ⊎_elim, unsigned_Decides}
-use Rattle.enforcer_core.proofs.Vocabulary.{count_by, cases_lt, false≢true, sum_by-append, sum_by-cons, same_Some}
-use Rattle.enforcer_core.proofs.Vocabulary.{Contains-append, first_or_later, here, later, none_in_nil, Step}
-use Rattle.enforcer_core.proofs.Vocabulary.{has_deadline, Plan, NodesStandIn, AreWellFormed, class_of, greatest}
-use Rattle.enforcer_core.proofs.Vocabulary.{EdgesRise, Typed, time_now, Gathers, MissingIsOne, After, PendingAfter}
-use Rattle.enforcer_core.proofs.Vocabulary.{node_of, BegunIsNamed, BegunIsReached, MissedIsReached, ReachedIsInside}
-use Rattle.enforcer_core.proofs.Vocabulary.{Instance, trace_with_step, DecidedMissesNothing, AnyCountsFall, CountsFall}
-use Rattle.enforcer_core.proofs.Vocabulary.{is_of_class, count_of_class}
+use Rattle.enforcer_core.proofs.Vocabulary.{◌≡◌, ℕ, ◌+◌, ◌<◌, ◌≤◌, ◌&&◌, Bool, true, false, cond, List, [], ◌∷◌, ◌++◌, Contains, Option, None, Some, nat_eq, refl, sym, ap, subst, ◌∙◌, arith, ⊎_elim}
+use Rattle.enforcer_core.proofs.Vocabulary.{unsigned_Decides, count_by, cases_lt, false≢true, sum_by-append, sum_by-cons, same_Some, Contains-append, first_or_later, here, later, none_in_nil, Step}
+use Rattle.enforcer_core.proofs.Vocabulary.{has_deadline, Plan, NodesStandIn, AreWellFormed, class_of, greatest, EdgesRise, Typed, time_now, Gathers, MissingIsOne, After, PendingAfter, node_of}
+use Rattle.enforcer_core.proofs.Vocabulary.{BegunIsNamed, BegunIsReached, MissedIsReached, ReachedIsInside, Instance, trace_with_step, DecidedMissesNothing, AnyCountsFall, CountsFall, is_of_class}
+use Rattle.enforcer_core.proofs.Vocabulary.{count_of_class}
 use Rattle.enforcer_core.proofs.ClassLemmas.{greatest_is}
 use Rattle.enforcer_core.proofs.TriggerLemmas.{IsDue}
-use Rattle.enforcer_core.proofs.ReachLemmas.{IsMet, IsNew, Leaves, Passes, Stays, becomes, due_at, due_ends, ending_met}
-use Rattle.enforcer_core.proofs.ReachLemmas.{is_served, leaves_new, new_lower, roots_new, stays_new}
+use Rattle.enforcer_core.proofs.ReachLemmas.{IsMet, IsNew, Leaves, Passes, Stays, becomes, due_at, due_ends, ending_met, is_served, leaves_new, new_lower, roots_new, stays_new}
 
 -- ---- counts
 

@@ -1,17 +1,10 @@
 -- What an enforcer has done, one record more, and at the end.
-use Rattle.enforcer_core.proofs.Vocabulary.{◌≡◌, ℕ, ◌<◌, ◌≤◌, List, [], ◌∷◌, ◌++◌, length}
-use Rattle.enforcer_core.proofs.Vocabulary.{refl, sym, ap, subst, ◌∙◌, arith, Bool, AllByRecursion, AllZip}
-use Rattle.enforcer_core.proofs.Vocabulary.{append-nil, All-from_recursion, recursion_from_All, IsTrace, no_values}
-use Rattle.enforcer_core.proofs.Vocabulary.{NameId, Step, Formula, Sat, Enforced, KeepsUp, Good, Satisfies, Lawful}
-use Rattle.enforcer_core.proofs.Vocabulary.{IsWithin, trace_of, Record, NeverFall, recorded, time_of, ClockRises}
-use Rattle.enforcer_core.proofs.Vocabulary.{LawfulJoins, RecordsJoin, WithinJoins, Plan, PlanMeans, PolicyKeepsMeaning}
-use Rattle.enforcer_core.proofs.Vocabulary.{StoredTyped, WorkTogether, typed_of, IsReady, ActedStep, out_steps}
-use Rattle.enforcer_core.proofs.Vocabulary.{AllAreJustified, steps_of, Follows, FollowsDrain, steps_behind}
-use Rattle.enforcer_core.proofs.Vocabulary.{follows_join, justified_join, ChangesLawfully, Permits, Course, Enforcing}
-use Rattle.enforcer_core.proofs.Vocabulary.{policy_plans, enforcer_plans, start_of, acted_steps, formulas_for}
-use Rattle.enforcer_core.proofs.Vocabulary.{FollowsFrom, KeepsStanding, SatisfiesBehind, Stands, CourseIsJustified}
-use Rattle.enforcer_core.proofs.Vocabulary.{CourseIsJustifiedToEnd, CourseBegins, CourseFollows, CourseFollowsToEnd}
-use Rattle.enforcer_core.proofs.Vocabulary.{DrainIsJustified, FollowsIsJustified, PlannedAreSatisfied, StandsForGood}
+use Rattle.enforcer_core.proofs.Vocabulary.{◌≡◌, ℕ, ◌<◌, ◌≤◌, List, [], ◌∷◌, ◌++◌, length, refl, sym, ap, subst, ◌∙◌, arith, Bool, AllByRecursion, AllZip, append-nil, All-from_recursion}
+use Rattle.enforcer_core.proofs.Vocabulary.{recursion_from_All, IsTrace, no_values, NameId, Step, Formula, Sat, Enforced, KeepsUp, Good, Satisfies, Lawful, IsWithin, trace_of, Record, NeverFall}
+use Rattle.enforcer_core.proofs.Vocabulary.{recorded, time_of, ClockRises, LawfulJoins, RecordsJoin, WithinJoins, Plan, PlanMeans, PolicyKeepsMeaning, StoredTyped, WorkTogether, typed_of, IsReady}
+use Rattle.enforcer_core.proofs.Vocabulary.{ActedStep, out_steps, AllAreJustified, steps_of, Follows, FollowsDrain, steps_behind, follows_join, justified_join, ChangesLawfully, Permits, Course}
+use Rattle.enforcer_core.proofs.Vocabulary.{Enforcing, policy_plans, enforcer_plans, start_of, acted_steps, formulas_for, FollowsFrom, KeepsStanding, SatisfiesBehind, Stands, CourseIsJustified}
+use Rattle.enforcer_core.proofs.Vocabulary.{CourseIsJustifiedToEnd, CourseBegins, CourseFollows, CourseFollowsToEnd, DrainIsJustified, FollowsIsJustified, PlannedAreSatisfied, StandsForGood}
 use Rattle.enforcer_core.proofs.Vocabulary.{DrainLaws}
 use Rattle.enforcer_core.proofs.LawfulChangeLemmas.{changes_join, none_changes, out_join}
 use Rattle.enforcer_core.proofs.DrainLemmas.{ready_is_good}

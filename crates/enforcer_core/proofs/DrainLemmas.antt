@@ -1,15 +1,9 @@
 -- Where no deadline is left the policy is satisfied, and so each trace that is ready can be continued well.
-use Rattle.enforcer_core.proofs.Vocabulary.{◌≡◌, ℕ, ◌+◌, ◌<◌, ◌≤◌, true, List, [], ◌∷◌}
-use Rattle.enforcer_core.proofs.Vocabulary.{◌++◌, All, length, refl, sym, subst, append_assoc, arith, Option, None}
-use Rattle.enforcer_core.proofs.Vocabulary.{Contains, AllByRecursion, append-nil, All-cons, All-contains}
-use Rattle.enforcer_core.proofs.Vocabulary.{All-from_recursion, All-nil, All-weaker, IsTrace, AllByRecursion-contains}
-use Rattle.enforcer_core.proofs.Vocabulary.{AllByRecursion-from_contains, no_values, Step, VarId, Formula, Sat, Good}
-use Rattle.enforcer_core.proofs.Vocabulary.{Satisfies, StepKind, Inserted, has_deadline, is_future, Plan, CausePlan}
-use Rattle.enforcer_core.proofs.Vocabulary.{SuppressPlan, Both, Either, TestOr, Guarded, EventuallyPlan, AlwaysPlan}
-use Rattle.enforcer_core.proofs.Vocabulary.{UntilPlan, NextPlan, Typed, WorkTogether, AtNode, HasDeadline, IsClean}
-use Rattle.enforcer_core.proofs.Vocabulary.{IsReady, NoneIsOver, Pend, OwesAt, Residual, AllHold, PendingIsEnough}
-use Rattle.enforcer_core.proofs.Vocabulary.{PlansStand, CanAskOf, Instance, Decides, ActedStep, is_inserted, steps_of}
-use Rattle.enforcer_core.proofs.Vocabulary.{FollowsDrain, InsertsSteps, formulas_for, DrainLaws}
+use Rattle.enforcer_core.proofs.Vocabulary.{◌≡◌, ℕ, ◌+◌, ◌<◌, ◌≤◌, true, List, [], ◌∷◌, ◌++◌, All, length, refl, sym, subst, append_assoc, arith, Option, None, Contains, AllByRecursion, append-nil}
+use Rattle.enforcer_core.proofs.Vocabulary.{All-cons, All-contains, All-from_recursion, All-nil, All-weaker, IsTrace, AllByRecursion-contains, AllByRecursion-from_contains, no_values, Step, VarId}
+use Rattle.enforcer_core.proofs.Vocabulary.{Formula, Sat, Good, Satisfies, StepKind, Inserted, has_deadline, is_future, Plan, CausePlan, SuppressPlan, Both, Either, TestOr, Guarded, EventuallyPlan}
+use Rattle.enforcer_core.proofs.Vocabulary.{AlwaysPlan, UntilPlan, NextPlan, Typed, WorkTogether, AtNode, HasDeadline, IsClean, IsReady, NoneIsOver, Pend, OwesAt, Residual, AllHold, PendingIsEnough}
+use Rattle.enforcer_core.proofs.Vocabulary.{PlansStand, CanAskOf, Instance, Decides, ActedStep, is_inserted, steps_of, FollowsDrain, InsertsSteps, formulas_for, DrainLaws}
 use Rattle.enforcer_core.proofs.StepLemmas.{ready_behind}
 
 -- ---- where no deadline is left

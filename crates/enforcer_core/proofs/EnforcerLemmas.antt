@@ -1,13 +1,8 @@
 -- An enforcer as what it remembers at its clock, and what its answers say of it.
-use Rattle.enforcer_core.proofs.Vocabulary.{◌≡◌, ℕ, ◌+◌, ◌≤◌, Bool, false, List, [], ◌∷◌}
-use Rattle.enforcer_core.proofs.Vocabulary.{◌++◌, map, refl, sym, ap, subst, ◌∙◌, arith, All, None, Contains}
-use Rattle.enforcer_core.proofs.Vocabulary.{length-map, All-weaker, here, Step, placed_guard, PendingIsEnough}
-use Rattle.enforcer_core.proofs.Vocabulary.{MOST_TIME, IsPendingListOf, StoredTyped, WorkTogether, typed_of, Record}
-use Rattle.enforcer_core.proofs.Vocabulary.{time_of, ActedStep, steps_of, AreDistinct, EnforcerDrains, Enforcing}
-use Rattle.enforcer_core.proofs.Vocabulary.{policy_plans, acted_step, acted_steps, FollowsDrainFrom, FollowsFrom}
-use Rattle.enforcer_core.proofs.Vocabulary.{IsJustifiedFrom, SatisfiesBehind, Stands, DrainIsJustified}
-use Rattle.enforcer_core.proofs.Vocabulary.{FollowsIsJustified, IsServing, enforcing_at, reach_in, NoneIsLeft}
-use Rattle.enforcer_core.proofs.Vocabulary.{PassesDeadlines, StepLaws, Remembered}
+use Rattle.enforcer_core.proofs.Vocabulary.{◌≡◌, ℕ, ◌+◌, ◌≤◌, Bool, false, List, [], ◌∷◌, ◌++◌, map, refl, sym, ap, subst, ◌∙◌, arith, All, None, Contains, length-map, All-weaker, here, Step}
+use Rattle.enforcer_core.proofs.Vocabulary.{placed_guard, PendingIsEnough, MOST_TIME, IsPendingListOf, StoredTyped, WorkTogether, typed_of, Record, time_of, ActedStep, steps_of, AreDistinct}
+use Rattle.enforcer_core.proofs.Vocabulary.{EnforcerDrains, Enforcing, policy_plans, acted_step, acted_steps, FollowsDrainFrom, FollowsFrom, IsJustifiedFrom, SatisfiesBehind, Stands, DrainIsJustified}
+use Rattle.enforcer_core.proofs.Vocabulary.{FollowsIsJustified, IsServing, enforcing_at, reach_in, NoneIsLeft, PassesDeadlines, StepLaws, Remembered}
 use Rattle.enforcer_core.proofs.StepLemmas.{deadline_listed}
 use Rattle.enforcer_core.proofs.DrainLemmas.{drained_satisfies}
 use Rattle.enforcer_core.proofs.ReachLemmas.{reach_later}

@@ -1,11 +1,8 @@
 -- What is owed by the plans of an accepted policy is owed for no longer at the steps that serve it, so these steps end.
-use Rattle.enforcer_core.proofs.Vocabulary.{◌≡◌, List, ◌++◌, None, refl, sym, subst, ◌∙◌, Formula, Step}
-use Rattle.enforcer_core.proofs.Vocabulary.{Record, NameEntry, OnePlans, ArePlanned, Typed, WorkTogether}
-use Rattle.enforcer_core.proofs.Vocabulary.{WellFormedCanBeAsked, WellFormedStand, ActedStep, steps_of, Follows}
-use Rattle.enforcer_core.proofs.Vocabulary.{FollowsDrain, AreDistinct, DrainIsOne, FollowsIsOne, IsReach, SomeFollows}
-use Rattle.enforcer_core.proofs.Vocabulary.{SomeInserts, DeadlinesAreWithinReach, ServedDeadlinesFall, reach_of}
-use Rattle.enforcer_core.proofs.Vocabulary.{JustOneFollows, JustOneFollowsPolicy, JustOneFollowsToEnd, SomethingDrains}
-use Rattle.enforcer_core.proofs.Vocabulary.{SomethingFollows, FollowsPolicy, FollowsToEnd}
+use Rattle.enforcer_core.proofs.Vocabulary.{◌≡◌, List, ◌++◌, None, refl, sym, subst, ◌∙◌, Formula, Step, Record, NameEntry, OnePlans, ArePlanned, Typed, WorkTogether, WellFormedCanBeAsked}
+use Rattle.enforcer_core.proofs.Vocabulary.{WellFormedStand, ActedStep, steps_of, Follows, FollowsDrain, AreDistinct, DrainIsOne, FollowsIsOne, IsReach, SomeFollows, SomeInserts}
+use Rattle.enforcer_core.proofs.Vocabulary.{DeadlinesAreWithinReach, ServedDeadlinesFall, reach_of, JustOneFollows, JustOneFollowsPolicy, JustOneFollowsToEnd, SomethingDrains, SomethingFollows}
+use Rattle.enforcer_core.proofs.Vocabulary.{FollowsPolicy, FollowsToEnd}
 
 module _ (fall : ServedDeadlinesFall) (reach : DeadlinesAreWithinReach) (founded : WellFormedCanBeAsked) (stand : WellFormedStand) where
   is_reach : (typed : Typed) → WorkTogether typed → IsReach typed.plans (reach_of typed.ranked.ranks typed.plans)

@@ -1,10 +1,7 @@
 -- That few steps are emitted for a record: at most one at each time that is over after it, and its own.
-use Rattle.enforcer_core.proofs.Vocabulary.{◌≡◌, ℕ, ◌+◌, ◌-◌, ◌≤◌, Bool, true, List, []}
-use Rattle.enforcer_core.proofs.Vocabulary.{◌∷◌, length, suc, refl, ap, arith, length-map, NameId, Step, StepKind}
-use Rattle.enforcer_core.proofs.Vocabulary.{System, Inserted, AreChangedTo, OutStep, onto_system, system_steps, Record}
-use Rattle.enforcer_core.proofs.Vocabulary.{StepRecord, Tick, recorded, time_of, ActedStep, out_step, out_steps}
-use Rattle.enforcer_core.proofs.Vocabulary.{TakesAreFew, RiseWithin, RisesBy, acted_step, acted_steps, Option}
-use Rattle.enforcer_core.proofs.Vocabulary.{Enforcing, PassesDeadlines}
+use Rattle.enforcer_core.proofs.Vocabulary.{◌≡◌, ℕ, ◌+◌, ◌-◌, ◌≤◌, Bool, true, List, [], ◌∷◌, length, suc, refl, ap, arith, length-map, NameId, Step, StepKind, System, Inserted, AreChangedTo, OutStep}
+use Rattle.enforcer_core.proofs.Vocabulary.{onto_system, system_steps, Record, StepRecord, Tick, recorded, time_of, ActedStep, out_step, out_steps, TakesAreFew, RiseWithin, RisesBy, acted_step}
+use Rattle.enforcer_core.proofs.Vocabulary.{acted_steps, Option, Enforcing, PassesDeadlines}
 
 -- the inserted ones are no more than the times between
 rise_few_by : (kind : StepKind) (from until time : ℕ) (o : OutStep) (out : List ActedStep) → from ≤ until

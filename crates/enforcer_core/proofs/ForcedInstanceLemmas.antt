@@ -1,14 +1,9 @@
 -- Where nothing is missed at a step, the instances that are forced there are served.
-use Rattle.enforcer_core.proofs.Vocabulary.{◌≡◌, ◌&&◌, ◌==◌, ℕ, ◌≤◌, Bool, true, false, List, []}
-use Rattle.enforcer_core.proofs.Vocabulary.{map, Contains, Option, None, Some, sym, subst, ◌∙◌, ⊎_elim}
-use Rattle.enforcer_core.proofs.Vocabulary.{AllByRecursion, false≢true, Contains-append_left, same_Some}
-use Rattle.enforcer_core.proofs.Vocabulary.{AllByRecursion-contains, AllByRecursion-from_contains, Contains-map, Event}
-use Rattle.enforcer_core.proofs.Vocabulary.{Step, VarId, Formula, EndsInTime, nodes, Plan, CausePlan, SuppressPlan}
-use Rattle.enforcer_core.proofs.Vocabulary.{Both, Either, TestOr, Guarded, EventuallyPlan, AlwaysPlan, UntilPlan}
-use Rattle.enforcer_core.proofs.Vocabulary.{NextPlan, time_now, AreServed, IsInstanceServed, is_forced_at, AtNode}
-use Rattle.enforcer_core.proofs.Vocabulary.{IsNowIn, MissesAt, MissingOf, Pend, node_of, PendingWasBegun, PlansStand}
-use Rattle.enforcer_core.proofs.Vocabulary.{CanAskOf, Action, Instance, Decides, MissesNothing, Waiting, all_asked}
-use Rattle.enforcer_core.proofs.Vocabulary.{is_forced, roots_from, trace_with_step, DecidedMissesNothing}
+use Rattle.enforcer_core.proofs.Vocabulary.{◌≡◌, ◌&&◌, ◌==◌, ℕ, ◌≤◌, Bool, true, false, List, [], map, Contains, Option, None, Some, sym, subst, ◌∙◌, ⊎_elim, AllByRecursion, false≢true}
+use Rattle.enforcer_core.proofs.Vocabulary.{Contains-append_left, same_Some, AllByRecursion-contains, AllByRecursion-from_contains, Contains-map, Event, Step, VarId, Formula, EndsInTime, nodes, Plan}
+use Rattle.enforcer_core.proofs.Vocabulary.{CausePlan, SuppressPlan, Both, Either, TestOr, Guarded, EventuallyPlan, AlwaysPlan, UntilPlan, NextPlan, time_now, AreServed, IsInstanceServed}
+use Rattle.enforcer_core.proofs.Vocabulary.{is_forced_at, AtNode, IsNowIn, MissesAt, MissingOf, Pend, node_of, PendingWasBegun, PlansStand, CanAskOf, Action, Instance, Decides, MissesNothing, Waiting}
+use Rattle.enforcer_core.proofs.Vocabulary.{all_asked, is_forced, roots_from, trace_with_step, DecidedMissesNothing}
 use Rattle.enforcer_core.proofs.ClassLemmas.{self_in}
 use Rattle.enforcer_core.proofs.ReachLemmas.{at_end, ordered_window}
 

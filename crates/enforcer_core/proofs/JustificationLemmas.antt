@@ -1,13 +1,8 @@
 -- What is emitted for records, and at the end, is justified: each step is decided after a trace that is ready for it.
-use Rattle.enforcer_core.proofs.Vocabulary.{◌≡◌, ℕ, ◌<◌, ◌≤◌, List, [], ◌∷◌, ◌++◌, Option}
-use Rattle.enforcer_core.proofs.Vocabulary.{None, Some, refl, sym, subst, append_assoc, arith, append-nil, All-contains}
-use Rattle.enforcer_core.proofs.Vocabulary.{All-from_recursion, IsTrace, AllByRecursion-from_contains, HasNoRepeats}
-use Rattle.enforcer_core.proofs.Vocabulary.{Event, Step, Record, NeverFall, StepRecord, Tick, recorded, time_of}
-use Rattle.enforcer_core.proofs.Vocabulary.{StepKind, Inserted, System, Plan, Typed, WorkTogether, IsNeeded}
-use Rattle.enforcer_core.proofs.Vocabulary.{HasDeadline, IsReady, NoneIsOver, Pend, PendCame, Instance, ActedStep}
-use Rattle.enforcer_core.proofs.Vocabulary.{AllAreJustified, AreJustified, StepIsJustified, is_inserted, steps_of}
-use Rattle.enforcer_core.proofs.Vocabulary.{Follows, GoesOut, InsertsSteps, IsPassed, StepGoesOut, steps_behind}
-use Rattle.enforcer_core.proofs.Vocabulary.{justified_join, DecidedAreJustified, LeastDeadlineIsNeeded, AreDistinct}
+use Rattle.enforcer_core.proofs.Vocabulary.{◌≡◌, ℕ, ◌<◌, ◌≤◌, List, [], ◌∷◌, ◌++◌, Option, None, Some, refl, sym, subst, append_assoc, arith, append-nil, All-contains, All-from_recursion, IsTrace}
+use Rattle.enforcer_core.proofs.Vocabulary.{AllByRecursion-from_contains, HasNoRepeats, Event, Step, Record, NeverFall, StepRecord, Tick, recorded, time_of, StepKind, Inserted, System, Plan, Typed}
+use Rattle.enforcer_core.proofs.Vocabulary.{WorkTogether, IsNeeded, HasDeadline, IsReady, NoneIsOver, Pend, PendCame, Instance, ActedStep, AllAreJustified, AreJustified, StepIsJustified, is_inserted}
+use Rattle.enforcer_core.proofs.Vocabulary.{steps_of, Follows, GoesOut, InsertsSteps, IsPassed, StepGoesOut, steps_behind, justified_join, DecidedAreJustified, LeastDeadlineIsNeeded, AreDistinct}
 use Rattle.enforcer_core.proofs.Vocabulary.{DecidedIsDistinct, DrainIsJustified, FollowsIsJustified, StepLaws}
 use Rattle.enforcer_core.proofs.StepLemmas.{ready_behind}
 

@@ -1,16 +1,10 @@
 -- The sorts of the values of rows that are kept.
-use Rattle.enforcer_core.proofs.Vocabulary.{◌≡◌, ◌∙◌, ℕ, zero, suc, ◌+◌, List, [], ◌∷◌}
-use Rattle.enforcer_core.proofs.Vocabulary.{◌++◌, Some, Contains, length, map, refl, sym, ap, subst, arith}
-use Rattle.enforcer_core.proofs.Vocabulary.{slice_get, AllByRecursion, All-contains, none-some, same_Some}
-use Rattle.enforcer_core.proofs.Vocabulary.{AllByRecursion-contains, here, later, none_in_nil, there_from_get}
-use Rattle.enforcer_core.proofs.Vocabulary.{rising_distinct, Valuation, no_values, value_at, valuation_of}
-use Rattle.enforcer_core.proofs.Vocabulary.{variable_cmp_total, Step, VarId, Value, Formula, AreFreeVariables}
-use Rattle.enforcer_core.proofs.Vocabulary.{SafeWithNoneListed, NoneBound, cell_at, value_at-with_inside, NameEntry}
-use Rattle.enforcer_core.proofs.Vocabulary.{Sort, CanKeep, HeldAlone, KeptHeld, OperatorsCanBeKept, all_operators}
-use Rattle.enforcer_core.proofs.Vocabulary.{operators, kept_operand, IsRowToKeep, KeptFor, numbered_operators, KeptRow}
-use Rattle.enforcer_core.proofs.Vocabulary.{CanBeEvaluated, GuardsAreListed, GuardBindsFresh, Plan, FitTold, FitsTold}
-use Rattle.enforcer_core.proofs.Vocabulary.{GuardTells, PlanKeepsSorts, SafeValuesFit, SortsFit, TraceFits, ValueFits}
-use Rattle.enforcer_core.proofs.Vocabulary.{fit_under, fits_stable, formulas_in}
+use Rattle.enforcer_core.proofs.Vocabulary.{◌≡◌, ◌∙◌, ℕ, zero, suc, ◌+◌, List, [], ◌∷◌, ◌++◌, Some, Contains, length, map, refl, sym, ap, subst, arith, slice_get, AllByRecursion, All-contains}
+use Rattle.enforcer_core.proofs.Vocabulary.{none-some, same_Some, AllByRecursion-contains, here, later, none_in_nil, there_from_get, rising_distinct, Valuation, no_values, value_at, valuation_of}
+use Rattle.enforcer_core.proofs.Vocabulary.{variable_cmp_total, Step, VarId, Value, Formula, AreFreeVariables, SafeWithNoneListed, NoneBound, cell_at, value_at-with_inside, NameEntry, Sort, CanKeep}
+use Rattle.enforcer_core.proofs.Vocabulary.{HeldAlone, KeptHeld, OperatorsCanBeKept, all_operators, operators, kept_operand, IsRowToKeep, KeptFor, numbered_operators, KeptRow, CanBeEvaluated}
+use Rattle.enforcer_core.proofs.Vocabulary.{GuardsAreListed, GuardBindsFresh, Plan, FitTold, FitsTold, GuardTells, PlanKeepsSorts, SafeValuesFit, SortsFit, TraceFits, ValueFits, fit_under}
+use Rattle.enforcer_core.proofs.Vocabulary.{fits_stable, formulas_in}
 use Rattle.enforcer_core.proofs.RightSortLemmas.{AllKeepSorts}
 use Rattle.enforcer_core.proofs.PlanSortLemmas.{fit_operands, guard_fits, told_plan}
 

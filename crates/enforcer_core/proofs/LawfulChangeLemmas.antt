@@ -1,11 +1,7 @@
 -- What is emitted changes the records lawfully: one step, one after another, and none.
-use Rattle.enforcer_core.proofs.Vocabulary.{◌≡◌, ℕ, ◌+◌, ◌≤◌, Bool, List, [], ◌∷◌, ◌++◌}
-use Rattle.enforcer_core.proofs.Vocabulary.{map, sym, ap, subst, arith, map-append, All-cons, All-nil, HasNoRepeats}
-use Rattle.enforcer_core.proofs.Vocabulary.{Event, NameId, Step, LawfulJoins, WithinJoins, AreChangedTo}
-use Rattle.enforcer_core.proofs.Vocabulary.{IsInsertedLawfully, IsLaterThan, Lawful, IsUntil, IsWithin, OutStep}
-use Rattle.enforcer_core.proofs.Vocabulary.{event_of, onto_system, system_steps, Record, StepRecord, recorded, StepKind}
-use Rattle.enforcer_core.proofs.Vocabulary.{Inserted, System, NothingClashes, Plan, ActsFrom, ActedStep, out_step}
-use Rattle.enforcer_core.proofs.Vocabulary.{out_steps, ActionsAreLawful, CausesAlone, EventsAreActedOnOnce}
+use Rattle.enforcer_core.proofs.Vocabulary.{◌≡◌, ℕ, ◌+◌, ◌≤◌, Bool, List, [], ◌∷◌, ◌++◌, map, sym, ap, subst, arith, map-append, All-cons, All-nil, HasNoRepeats, Event, NameId, Step, LawfulJoins}
+use Rattle.enforcer_core.proofs.Vocabulary.{WithinJoins, AreChangedTo, IsInsertedLawfully, IsLaterThan, Lawful, IsUntil, IsWithin, OutStep, event_of, onto_system, system_steps, Record, StepRecord}
+use Rattle.enforcer_core.proofs.Vocabulary.{recorded, StepKind, Inserted, System, NothingClashes, Plan, ActsFrom, ActedStep, out_step, out_steps, ActionsAreLawful, CausesAlone, EventsAreActedOnOnce}
 use Rattle.enforcer_core.proofs.Vocabulary.{ChangesLawfully, Permits}
 use Rattle.choice_step.specs.meaning.ActedSteps as choice
 

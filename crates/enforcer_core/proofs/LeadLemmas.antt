@@ -1,25 +1,15 @@
 -- What a step leads on to, whatever the guards say: later deadlines, and nothing that is owed for longer.
-use Rattle.enforcer_core.proofs.Vocabulary.{◌≡◌, ◌⊎◌, ℕ, zero, suc, ◌+◌, ◌<◌, ◌≤◌, Bool}
-use Rattle.enforcer_core.proofs.Vocabulary.{true, false, List, [], ◌∷◌, map, Contains, Option, None, Some, refl}
-use Rattle.enforcer_core.proofs.Vocabulary.{sym, ap, subst, ◌∙◌, arith, inl, inr, ⊎_elim, unsigned_Decides}
-use Rattle.enforcer_core.proofs.Vocabulary.{flat_map, cases_lt, false≢true, All-contains, same_Some}
-use Rattle.enforcer_core.proofs.Vocabulary.{AllByRecursion-contains, here, later, there_from_get, Contains-from_map}
-use Rattle.enforcer_core.proofs.Vocabulary.{Contains-map, Event, NameId, IsCause, caused_at, caused_below, has_deadline}
-use Rattle.enforcer_core.proofs.Vocabulary.{nodes, window_end, Plan, CausePlan, SuppressPlan, Both, Either, TestOr}
-use Rattle.enforcer_core.proofs.Vocabulary.{Guarded, EventuallyPlan, AlwaysPlan, UntilPlan, NextPlan, EndsLater}
-use Rattle.enforcer_core.proofs.Vocabulary.{NodesStandIn, class_of, greatest, rank_in, with_deadlines, EdgesRise}
-use Rattle.enforcer_core.proofs.Vocabulary.{needs_trigger, Typed, WorkTogether, IsLeaf, LeadsAt, is_forced_at, AtNode}
-use Rattle.enforcer_core.proofs.Vocabulary.{HasDeadline, NoneIsOver, node_of, BegunIsNamed, ReachedIsInside, IsBegunAt}
-use Rattle.enforcer_core.proofs.Vocabulary.{IsBegunUnder, IsReachedBy, HasPart, Action, Instance, LiteralKind}
-use Rattle.enforcer_core.proofs.Vocabulary.{acted_among, ActsFrom, AreAskedActions, change_by, change_of, CausesAlone}
-use Rattle.enforcer_core.proofs.Vocabulary.{LedDeadlinesFall, LedStaysInReach, reach_of, widest_window}
-use Rattle.enforcer_core.proofs.ClassLemmas.{below_in, caused_in, class_below, class_higher, greatest_is, in_flat}
-use Rattle.enforcer_core.proofs.ClassLemmas.{least, least_behind, least_caused, nodes_in, self_in}
-use Rattle.enforcer_core.proofs.ReachLemmas.{begun_high, below_reach, deadline_of, due_at, in_deadlines, in_reach}
-use Rattle.enforcer_core.proofs.ReachLemmas.{later_end, needs, over_at, over_from, reach_is, reach_of_within}
-use Rattle.enforcer_core.proofs.ReachLemmas.{reach_within, window_within}
-use Rattle.enforcer_core.proofs.TriggerLemmas.{IsAsked, IsDue, anew_asked, at_place, behind_event, cause_leaf}
-use Rattle.enforcer_core.proofs.TriggerLemmas.{due_asked, root_asked}
+use Rattle.enforcer_core.proofs.Vocabulary.{◌≡◌, ◌⊎◌, ℕ, zero, suc, ◌+◌, ◌<◌, ◌≤◌, Bool, true, false, List, [], ◌∷◌, map, Contains, Option, None, Some, refl, sym, ap, subst, ◌∙◌, arith, inl, inr}
+use Rattle.enforcer_core.proofs.Vocabulary.{⊎_elim, unsigned_Decides, flat_map, cases_lt, false≢true, All-contains, same_Some, AllByRecursion-contains, here, later, there_from_get, Contains-from_map}
+use Rattle.enforcer_core.proofs.Vocabulary.{Contains-map, Event, NameId, IsCause, caused_at, caused_below, has_deadline, nodes, window_end, Plan, CausePlan, SuppressPlan, Both, Either, TestOr}
+use Rattle.enforcer_core.proofs.Vocabulary.{Guarded, EventuallyPlan, AlwaysPlan, UntilPlan, NextPlan, EndsLater, NodesStandIn, class_of, greatest, rank_in, with_deadlines, EdgesRise, needs_trigger}
+use Rattle.enforcer_core.proofs.Vocabulary.{Typed, WorkTogether, IsLeaf, LeadsAt, is_forced_at, AtNode, HasDeadline, NoneIsOver, node_of, BegunIsNamed, ReachedIsInside, IsBegunAt, IsBegunUnder}
+use Rattle.enforcer_core.proofs.Vocabulary.{IsReachedBy, HasPart, Action, Instance, LiteralKind, acted_among, ActsFrom, AreAskedActions, change_by, change_of, CausesAlone, LedDeadlinesFall}
+use Rattle.enforcer_core.proofs.Vocabulary.{LedStaysInReach, reach_of, widest_window}
+use Rattle.enforcer_core.proofs.ClassLemmas.{below_in, caused_in, class_below, class_higher, greatest_is, in_flat, least, least_behind, least_caused, nodes_in, self_in}
+use Rattle.enforcer_core.proofs.ReachLemmas.{begun_high, below_reach, deadline_of, due_at, in_deadlines, in_reach, later_end, needs, over_at, over_from, reach_is, reach_of_within, reach_within}
+use Rattle.enforcer_core.proofs.ReachLemmas.{window_within}
+use Rattle.enforcer_core.proofs.TriggerLemmas.{IsAsked, IsDue, anew_asked, at_place, behind_event, cause_leaf, due_asked, root_asked}
 use Rattle.obligations.specs.declared.literals.LiteralKind.TheVariants as kind
 
 -- anything that is pending will do

@@ -1,15 +1,9 @@
 -- What is emitted at deadlines that are passed: one step, steps after one another, and none.
-use Rattle.enforcer_core.proofs.Vocabulary.{◌≡◌, ℕ, ◌+◌, ◌≤◌, List, [], ◌∷◌, ◌++◌}
-use Rattle.enforcer_core.proofs.Vocabulary.{length-append, refl, sym, ap, subst, ◌∙◌, append_assoc, arith, Option}
-use Rattle.enforcer_core.proofs.Vocabulary.{Some, Result, Ok, Err, OnErr, append-nil, map-append, All-append, All-cons}
-use Rattle.enforcer_core.proofs.Vocabulary.{All-contains, All-head, All-nil, All-tail, All-weaker, Step, last_time}
-use Rattle.enforcer_core.proofs.Vocabulary.{StepKind, Inserted, System, MOST_TIME, AreCopies, Plan, StoredTyped}
-use Rattle.enforcer_core.proofs.Vocabulary.{WorkTogether, typed_of, HasDeadline, NoneIsOver, IsLeastOf, Instance}
-use Rattle.enforcer_core.proofs.Vocabulary.{ActedStep, steps_of, GoesOut, InsertsSteps, IsLeastDeadline, IsPassed}
-use Rattle.enforcer_core.proofs.Vocabulary.{NoneIsPassed, steps_behind, RiseWithin, RisesBy, clock_drained, Enforcing}
-use Rattle.enforcer_core.proofs.Vocabulary.{policy_plans, acted_step, acted_steps, IsServing, enforcing_at, reach_in}
-use Rattle.enforcer_core.proofs.Vocabulary.{NoneIsLeft, PassesDeadlines, CanDecideAt, IsDecided, RemembersTrace, Stands}
-use Rattle.enforcer_core.proofs.Vocabulary.{StepLaws, Remembered, All}
+use Rattle.enforcer_core.proofs.Vocabulary.{◌≡◌, ℕ, ◌+◌, ◌≤◌, List, [], ◌∷◌, ◌++◌, length-append, refl, sym, ap, subst, ◌∙◌, append_assoc, arith, Option, Some, Result, Ok, Err, OnErr, append-nil}
+use Rattle.enforcer_core.proofs.Vocabulary.{map-append, All-append, All-cons, All-contains, All-head, All-nil, All-tail, All-weaker, Step, last_time, StepKind, Inserted, System, MOST_TIME, AreCopies}
+use Rattle.enforcer_core.proofs.Vocabulary.{Plan, StoredTyped, WorkTogether, typed_of, HasDeadline, NoneIsOver, IsLeastOf, Instance, ActedStep, steps_of, GoesOut, InsertsSteps, IsLeastDeadline}
+use Rattle.enforcer_core.proofs.Vocabulary.{IsPassed, NoneIsPassed, steps_behind, RiseWithin, RisesBy, clock_drained, Enforcing, policy_plans, acted_step, acted_steps, IsServing, enforcing_at}
+use Rattle.enforcer_core.proofs.Vocabulary.{reach_in, NoneIsLeft, PassesDeadlines, CanDecideAt, IsDecided, RemembersTrace, Stands, StepLaws, Remembered, All}
 use Rattle.enforcer_core.proofs.LawfulChangeLemmas.{changes_join, inserted_changes, none_changes}
 use Rattle.enforcer_core.proofs.StepLemmas.{deadline_listed, least_is, stands_behind}
 use Rattle.enforcer_core.specs.declared.steps.OutStep as made

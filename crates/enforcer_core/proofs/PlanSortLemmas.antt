@@ -1,14 +1,9 @@
 -- What plans tell of sorts, and the sorts of what is in guards.
-use Rattle.enforcer_core.proofs.Vocabulary.{◌≡◌, ◌∙◌, ℕ, ⊎_elim, Bool, true, false, ◌||◌, nat_eq}
-use Rattle.enforcer_core.proofs.Vocabulary.{IsTrue, List, [], ◌∷◌, ◌++◌, Some, Contains, refl, sym, ap, subst}
-use Rattle.enforcer_core.proofs.Vocabulary.{arith, slice_get, list_any, list_any-append, same_Some, Contains-append}
-use Rattle.enforcer_core.proofs.Vocabulary.{first_or_later, none_in_nil, Term, Var, VarId, Formula, True, False, Atom}
-use Rattle.enforcer_core.proofs.Vocabulary.{Equal, Less, AtMost, Not, And, Or, Implies, Exists, Forall, Prev, Next}
-use Rattle.enforcer_core.proofs.Vocabulary.{Once, Historically, Since, Eventually, Always, Until, NoneBound, denial}
-use Rattle.enforcer_core.proofs.Vocabulary.{entry_columns, NameEntry, Sort, Int, operators, kept_operand, IsListedNode}
-use Rattle.enforcer_core.proofs.Vocabulary.{nodes, Plan, AtEach, FormulaTells, PlanTells, SidesTell, TermsTell}
-use Rattle.enforcer_core.proofs.Vocabulary.{is_of_guard, KeepsSorts, AreTermsOfSort, Besides, FillSorts, SortsFit}
-use Rattle.enforcer_core.proofs.Vocabulary.{InfersSort, term_sort, fit_under, nothing_under}
+use Rattle.enforcer_core.proofs.Vocabulary.{◌≡◌, ◌∙◌, ℕ, ⊎_elim, Bool, true, false, ◌||◌, nat_eq, IsTrue, List, [], ◌∷◌, ◌++◌, Some, Contains, refl, sym, ap, subst, arith, slice_get, list_any}
+use Rattle.enforcer_core.proofs.Vocabulary.{list_any-append, same_Some, Contains-append, first_or_later, none_in_nil, Term, Var, VarId, Formula, True, False, Atom, Equal, Less, AtMost, Not, And, Or}
+use Rattle.enforcer_core.proofs.Vocabulary.{Implies, Exists, Forall, Prev, Next, Once, Historically, Since, Eventually, Always, Until, NoneBound, denial, entry_columns, NameEntry, Sort, Int}
+use Rattle.enforcer_core.proofs.Vocabulary.{operators, kept_operand, IsListedNode, nodes, Plan, AtEach, FormulaTells, PlanTells, SidesTell, TermsTell, is_of_guard, KeepsSorts, AreTermsOfSort, Besides}
+use Rattle.enforcer_core.proofs.Vocabulary.{FillSorts, SortsFit, InfersSort, term_sort, fit_under, nothing_under}
 use Rattle.plan_terms.specs.meaning.Plans as plan
 
 -- ---- what is told is the sort

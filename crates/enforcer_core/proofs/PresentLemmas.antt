@@ -1,8 +1,6 @@
 -- Plans that do not look ahead, one after another.
-use Rattle.enforcer_core.proofs.Vocabulary.{◌≡◌, ℕ, zero, suc, ◌+◌, ◌<◌, Bool, true, false, List, []}
-use Rattle.enforcer_core.proofs.Vocabulary.{◌∷◌, length, map, take, get_or, refl, sym, subst, arith, ◌||◌}
-use Rattle.enforcer_core.proofs.Vocabulary.{◌∙◌, false≢true, AllByRecursion, list_any, has_future, is_future}
-use Rattle.enforcer_core.proofs.Vocabulary.{nodes, Plan, LooksAtNow}
+use Rattle.enforcer_core.proofs.Vocabulary.{◌≡◌, ℕ, zero, suc, ◌+◌, ◌<◌, Bool, true, false, List, [], ◌∷◌, length, map, take, get_or, refl, sym, subst, arith, ◌||◌, ◌∙◌, false≢true, AllByRecursion}
+use Rattle.enforcer_core.proofs.Vocabulary.{list_any, has_future, is_future, nodes, Plan, LooksAtNow}
 
 both : (x y : Bool) → (x || y) ≡ false → (x ≡ false) × (y ≡ false)
 both false y e = (refl, e)

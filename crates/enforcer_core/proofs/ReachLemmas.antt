@@ -1,35 +1,19 @@
 -- What is begun at an inserted step has a lower class than something that was due; so what can be owed never grows.
-use Rattle.enforcer_core.proofs.Vocabulary.{◌≡◌, ◌⊎◌, ℕ, suc, ◌+◌, ◌*◌, ◌<◌, ◌≤◌, Bool}
-use Rattle.enforcer_core.proofs.Vocabulary.{true, false, cond, List, [], ◌∷◌, ◌++◌, length, map, Contains}
-use Rattle.enforcer_core.proofs.Vocabulary.{Option, None, Some, length-append, refl, sym, ap, subst, ◌∙◌, arith}
-use Rattle.enforcer_core.proofs.Vocabulary.{inl, inr, ⊎_elim, unsigned_Decides, flat_map, cases_lt, false≢true}
-use Rattle.enforcer_core.proofs.Vocabulary.{get_or_append_left, All-contains, All-from_recursion, Contains-append_left}
-use Rattle.enforcer_core.proofs.Vocabulary.{suc-mul, mul-le, same_Some, IsTrace, no_step, step_at}
-use Rattle.enforcer_core.proofs.Vocabulary.{AllByRecursion-contains, AllByRecursion-from_contains, Contains-append}
-use Rattle.enforcer_core.proofs.Vocabulary.{first_or_later, here, later, none_in_nil, there_from_get, Contains-filter}
-use Rattle.enforcer_core.proofs.Vocabulary.{Contains-from_map, Contains-map, Valuation, no_values, Event, NameId}
-use Rattle.enforcer_core.proofs.Vocabulary.{MOST_INTERVAL_END, Step, last_time, most_time, Inserted, LastIsAtTheEnd}
-use Rattle.enforcer_core.proofs.Vocabulary.{AllEndLater, EndsLater, EndsInTime, AreWellFormed, IsWellFormed}
-use Rattle.enforcer_core.proofs.Vocabulary.{has_deadline, nodes, window_end, Plan, CausePlan, SuppressPlan, Both}
-use Rattle.enforcer_core.proofs.Vocabulary.{Either, TestOr, Guarded, EventuallyPlan, AlwaysPlan, UntilPlan, NextPlan}
-use Rattle.enforcer_core.proofs.Vocabulary.{NodesStandIn, IsRank, AreRanked, class_of, greatest, horizon_of, rank_in}
-use Rattle.enforcer_core.proofs.Vocabulary.{with_deadlines, EdgesRise, Edge, begun_later, below, needs_trigger}
-use Rattle.enforcer_core.proofs.Vocabulary.{AreAccepted, Typed, WorkTogether, Begun, LacksNothing, LacksSome, time_now}
-use Rattle.enforcer_core.proofs.Vocabulary.{last_position, MissingIsOne, PendIsOne, WellFormedStand, After, AtNode}
-use Rattle.enforcer_core.proofs.Vocabulary.{BecomesAt, BegunByRoots, PendingAfter, HasDeadline, IsNowIn, MissesAt}
-use Rattle.enforcer_core.proofs.Vocabulary.{MissingOf, NoneIsOver, Pend, node_of, BegunByRoots-contains}
-use Rattle.enforcer_core.proofs.Vocabulary.{Gathers-contains, BegunIsNamed, BegunIsReached, MissedIsReached}
-use Rattle.enforcer_core.proofs.Vocabulary.{ReachedIsInside, IsBegunBy, IsBegunIn, IsReached, last_events, IsBegunAt}
-use Rattle.enforcer_core.proofs.Vocabulary.{PendCame, PendingWasBegun, Action, Instance, Decides, MissesNothing}
-use Rattle.enforcer_core.proofs.Vocabulary.{Waiting, all_asked, is_forced, roots_from, trace_with_step}
-use Rattle.enforcer_core.proofs.Vocabulary.{DecidedMissesNothing, AnyDeadlinesFall, DeadlinesAreWithinReach}
-use Rattle.enforcer_core.proofs.Vocabulary.{HighsAreNear, NoneGoesOver, ReachIsWithinHorizon, ServedDeadlinesFall}
-use Rattle.enforcer_core.proofs.Vocabulary.{WindowsAreInOrder, WindowsAreOrdered, reach_at, reach_of, widest_window}
+use Rattle.enforcer_core.proofs.Vocabulary.{◌≡◌, ◌⊎◌, ℕ, suc, ◌+◌, ◌*◌, ◌<◌, ◌≤◌, Bool, true, false, cond, List, [], ◌∷◌, ◌++◌, length, map, Contains, Option, None, Some, length-append, refl, sym, ap}
+use Rattle.enforcer_core.proofs.Vocabulary.{subst, ◌∙◌, arith, inl, inr, ⊎_elim, unsigned_Decides, flat_map, cases_lt, false≢true, get_or_append_left, All-contains, All-from_recursion}
+use Rattle.enforcer_core.proofs.Vocabulary.{Contains-append_left, suc-mul, mul-le, same_Some, IsTrace, no_step, step_at, AllByRecursion-contains, AllByRecursion-from_contains, Contains-append}
+use Rattle.enforcer_core.proofs.Vocabulary.{first_or_later, here, later, none_in_nil, there_from_get, Contains-filter, Contains-from_map, Contains-map, Valuation, no_values, Event, NameId}
+use Rattle.enforcer_core.proofs.Vocabulary.{MOST_INTERVAL_END, Step, last_time, most_time, Inserted, LastIsAtTheEnd, AllEndLater, EndsLater, EndsInTime, AreWellFormed, IsWellFormed, has_deadline}
+use Rattle.enforcer_core.proofs.Vocabulary.{nodes, window_end, Plan, CausePlan, SuppressPlan, Both, Either, TestOr, Guarded, EventuallyPlan, AlwaysPlan, UntilPlan, NextPlan, NodesStandIn, IsRank}
+use Rattle.enforcer_core.proofs.Vocabulary.{AreRanked, class_of, greatest, horizon_of, rank_in, with_deadlines, EdgesRise, Edge, begun_later, below, needs_trigger, AreAccepted, Typed, WorkTogether}
+use Rattle.enforcer_core.proofs.Vocabulary.{Begun, LacksNothing, LacksSome, time_now, last_position, MissingIsOne, PendIsOne, WellFormedStand, After, AtNode, BecomesAt, BegunByRoots, PendingAfter}
+use Rattle.enforcer_core.proofs.Vocabulary.{HasDeadline, IsNowIn, MissesAt, MissingOf, NoneIsOver, Pend, node_of, BegunByRoots-contains, Gathers-contains, BegunIsNamed, BegunIsReached}
+use Rattle.enforcer_core.proofs.Vocabulary.{MissedIsReached, ReachedIsInside, IsBegunBy, IsBegunIn, IsReached, last_events, IsBegunAt, PendCame, PendingWasBegun, Action, Instance, Decides}
+use Rattle.enforcer_core.proofs.Vocabulary.{MissesNothing, Waiting, all_asked, is_forced, roots_from, trace_with_step, DecidedMissesNothing, AnyDeadlinesFall, DeadlinesAreWithinReach, HighsAreNear}
+use Rattle.enforcer_core.proofs.Vocabulary.{NoneGoesOver, ReachIsWithinHorizon, ServedDeadlinesFall, WindowsAreInOrder, WindowsAreOrdered, reach_at, reach_of, widest_window}
 use Rattle.std.proofs.Common.{slice_get}
-use Rattle.enforcer_core.proofs.ClassLemmas.{class_below, class_higher, greatest_is, greatest_within, in_flat, least}
-use Rattle.enforcer_core.proofs.ClassLemmas.{least_behind, nodes_in}
-use Rattle.enforcer_core.proofs.TriggerLemmas.{AreOwed, Ends, IsAsked, IsDue, anew_asked, behind_event, decided_owed}
-use Rattle.enforcer_core.proofs.TriggerLemmas.{due_asked, ends_now, has_node, last_step, root_asked}
+use Rattle.enforcer_core.proofs.ClassLemmas.{class_below, class_higher, greatest_is, greatest_within, in_flat, least, least_behind, nodes_in}
+use Rattle.enforcer_core.proofs.TriggerLemmas.{AreOwed, Ends, IsAsked, IsDue, anew_asked, behind_event, decided_owed, due_asked, ends_now, has_node, last_step, root_asked}
 
 -- ---- reach
 

@@ -1,13 +1,8 @@
 -- What is emitted for a record: steps at the deadlines that it passes, and its own step.
-use Rattle.enforcer_core.proofs.Vocabulary.{false, ℕ, ◌+◌, ◌<◌, ◌≤◌, List, [], ◌∷◌, ◌++◌}
-use Rattle.enforcer_core.proofs.Vocabulary.{length-append, refl, sym, subst, ◌∙◌, arith, Some, append-nil}
-use Rattle.enforcer_core.proofs.Vocabulary.{length-map, HasNoRepeats, Event, Step, Record, StepRecord, Tick, most_time}
-use Rattle.enforcer_core.proofs.Vocabulary.{time_of, StepKind, System, AreCopies, Plan, MOST_HORIZON, StoredTyped}
-use Rattle.enforcer_core.proofs.Vocabulary.{WorkTogether, typed_of, NoneIsOver, MOST_TIME, ActedStep, steps_of, GoesOut}
-use Rattle.enforcer_core.proofs.Vocabulary.{steps_behind, ChangesLawfully, RiseWithin, RisesBy, IsCallInTime}
-use Rattle.enforcer_core.proofs.Vocabulary.{EnforcerTakes, Enforcing, policy_plans, acted_step, acted_steps}
-use Rattle.enforcer_core.proofs.Vocabulary.{enforcing_at, reach_in, LetsOut, NoneIsLeft, PassesDeadlines, CanDecideAt}
-use Rattle.enforcer_core.proofs.Vocabulary.{IsDecided, RemembersTrace, Stands, StepLaws, Remembered}
+use Rattle.enforcer_core.proofs.Vocabulary.{false, ℕ, ◌+◌, ◌<◌, ◌≤◌, List, [], ◌∷◌, ◌++◌, length-append, refl, sym, subst, ◌∙◌, arith, Some, append-nil, length-map, HasNoRepeats, Event, Step, Record}
+use Rattle.enforcer_core.proofs.Vocabulary.{StepRecord, Tick, most_time, time_of, StepKind, System, AreCopies, Plan, MOST_HORIZON, StoredTyped, WorkTogether, typed_of, NoneIsOver, MOST_TIME}
+use Rattle.enforcer_core.proofs.Vocabulary.{ActedStep, steps_of, GoesOut, steps_behind, ChangesLawfully, RiseWithin, RisesBy, IsCallInTime, EnforcerTakes, Enforcing, policy_plans, acted_step}
+use Rattle.enforcer_core.proofs.Vocabulary.{acted_steps, enforcing_at, reach_in, LetsOut, NoneIsLeft, PassesDeadlines, CanDecideAt, IsDecided, RemembersTrace, Stands, StepLaws, Remembered}
 use Rattle.enforcer_core.proofs.LawfulChangeLemmas.{changes_join, none_changes, system_changes}
 use Rattle.enforcer_core.proofs.PassedDeadlineLemmas.{passes_all, rise_join}
 use Rattle.enforcer_core.proofs.StepLemmas.{none_earlier, stands_behind, stands_later}

@@ -1,12 +1,8 @@
 -- The guards of a plan that keeps to sorts give values of them.
-use Rattle.enforcer_core.proofs.Vocabulary.{◌≡◌, ◌∙◌, ℕ, zero, suc, ◌-◌, ◌≤◌, ⊎_elim, Bool}
-use Rattle.enforcer_core.proofs.Vocabulary.{true, false, nat_lt, List, [], ◌∷◌, ◌++◌, Some, length, take}
-use Rattle.enforcer_core.proofs.Vocabulary.{Contains, refl, sym, subst, arith, slice_get, AllByRecursion, get_or-take}
-use Rattle.enforcer_core.proofs.Vocabulary.{get_or_past, length-take-le, none-some, same_Some, no_step, Contains-append}
-use Rattle.enforcer_core.proofs.Vocabulary.{none_in_nil, rising_apart, variable_cmp_total, Step, VarId, Value}
-use Rattle.enforcer_core.proofs.Vocabulary.{value_at-with_outside, Plan, AtEach, IsScopedPlan, IsScopedNode}
-use Rattle.enforcer_core.proofs.Vocabulary.{has_sort-from_sort, has_sort-sort, FitsSignature, has_sort, NameEntry, Sort}
-use Rattle.enforcer_core.proofs.Vocabulary.{Int, KeepsSorts, PlanKeepsSorts, TraceFits, GivesRight}
+use Rattle.enforcer_core.proofs.Vocabulary.{◌≡◌, ◌∙◌, ℕ, zero, suc, ◌-◌, ◌≤◌, ⊎_elim, Bool, true, false, nat_lt, List, [], ◌∷◌, ◌++◌, Some, length, take, Contains, refl, sym, subst, arith, slice_get}
+use Rattle.enforcer_core.proofs.Vocabulary.{AllByRecursion, get_or-take, get_or_past, length-take-le, none-some, same_Some, no_step, Contains-append, none_in_nil, rising_apart, variable_cmp_total}
+use Rattle.enforcer_core.proofs.Vocabulary.{Step, VarId, Value, value_at-with_outside, Plan, AtEach, IsScopedPlan, IsScopedNode, has_sort-from_sort, has_sort-sort, FitsSignature, has_sort, NameEntry}
+use Rattle.enforcer_core.proofs.Vocabulary.{Sort, Int, KeepsSorts, PlanKeepsSorts, TraceFits, GivesRight}
 use Rattle.plan_terms.specs.meaning.Plans as plan
 
 -- ---- the sorts of rules

@@ -1,20 +1,11 @@
 -- What is kept of a trace keeps the bounds of states.
-use Rattle.enforcer_core.proofs.Vocabulary.{◌≡◌, ◌∙◌, ◌↔◌, ℕ, ◌<◌, ◌≤◌, ◌^◌, List, []}
-use Rattle.enforcer_core.proofs.Vocabulary.{◌∷◌, All, Option, None, Some, Contains, length, map, sum, refl, sym}
-use Rattle.enforcer_core.proofs.Vocabulary.{ap, subst, arith, slice_get, AllByRecursion, sum_by, option_map}
-use Rattle.enforcer_core.proofs.Vocabulary.{All-contains, sum-map, none-some, slice_get_within, IsTrace}
-use Rattle.enforcer_core.proofs.Vocabulary.{AllByRecursion-contains, AllByRecursion-weaker, there_from_get, value_at}
-use Rattle.enforcer_core.proofs.Vocabulary.{Step, VarId, Value, Formula, formula_size, SafeWithNoneListed}
-use Rattle.enforcer_core.proofs.Vocabulary.{has_sort-sort, has_sort, NameEntry, ReadIsWellFormed, most_time, System}
-use Rattle.enforcer_core.proofs.Vocabulary.{NoMoreThanNodes, KeptHeld, OperatorsCanBeKept, IsFrom, IsLastTime}
-use Rattle.enforcer_core.proofs.Vocabulary.{all_operators, IsRowToKeep, KeptAreWithinBounds, KeptRow, CanBeEvaluated}
-use Rattle.enforcer_core.proofs.Vocabulary.{GuardsAreListed, AreWellFormed, IsWellFormed, NumberIsPlace, FoundIsFirst}
-use Rattle.enforcer_core.proofs.Vocabulary.{nodes, Plan, IsScopedPlan, future_in, PolicyKeepsSorts, ReadIsSorted}
-use Rattle.enforcer_core.proofs.Vocabulary.{SafeValuesFit, PolicyGuardsAreSafe, formulas_of, TraceFits, CanBePending}
-use Rattle.enforcer_core.proofs.Vocabulary.{PendCanBePending, IsReady, Pend, PendIsOne, PendingIsRight, Instance}
-use Rattle.enforcer_core.proofs.Vocabulary.{RuleTells, IsSnapshotOf, FitsTold, IsSoundState, IsSoundRow}
-use Rattle.enforcer_core.proofs.Vocabulary.{SoundKeepsBounds, Snapshot, HighsAreNear, SavedKeepsBounds, saved_bounds}
-use Rattle.enforcer_core.proofs.Vocabulary.{formulas_in}
+use Rattle.enforcer_core.proofs.Vocabulary.{◌≡◌, ◌∙◌, ◌↔◌, ℕ, ◌<◌, ◌≤◌, ◌^◌, List, [], ◌∷◌, All, Option, None, Some, Contains, length, map, sum, refl, sym, ap, subst, arith, slice_get, AllByRecursion}
+use Rattle.enforcer_core.proofs.Vocabulary.{sum_by, option_map, All-contains, sum-map, none-some, slice_get_within, IsTrace, AllByRecursion-contains, AllByRecursion-weaker, there_from_get, value_at}
+use Rattle.enforcer_core.proofs.Vocabulary.{Step, VarId, Value, Formula, formula_size, SafeWithNoneListed, has_sort-sort, has_sort, NameEntry, ReadIsWellFormed, most_time, System, NoMoreThanNodes}
+use Rattle.enforcer_core.proofs.Vocabulary.{KeptHeld, OperatorsCanBeKept, IsFrom, IsLastTime, all_operators, IsRowToKeep, KeptAreWithinBounds, KeptRow, CanBeEvaluated, GuardsAreListed, AreWellFormed}
+use Rattle.enforcer_core.proofs.Vocabulary.{IsWellFormed, NumberIsPlace, FoundIsFirst, nodes, Plan, IsScopedPlan, future_in, PolicyKeepsSorts, ReadIsSorted, SafeValuesFit, PolicyGuardsAreSafe}
+use Rattle.enforcer_core.proofs.Vocabulary.{formulas_of, TraceFits, CanBePending, PendCanBePending, IsReady, Pend, PendIsOne, PendingIsRight, Instance, RuleTells, IsSnapshotOf, FitsTold, IsSoundState}
+use Rattle.enforcer_core.proofs.Vocabulary.{IsSoundRow, SoundKeepsBounds, Snapshot, HighsAreNear, SavedKeepsBounds, saved_bounds, formulas_in}
 use Rattle.enforcer_core.proofs.KeptSortLemmas.{kept_has_sorts}
 use Rattle.enforcer_core.proofs.RightSortLemmas.{AllKeepSorts, gives_right, sorts_in, sorts_keep}
 use Rattle.enforcer_core.proofs.SnapshotLemmas.{can_pend, kept_at, last_from}

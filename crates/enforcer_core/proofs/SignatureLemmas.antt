@@ -1,17 +1,11 @@
 -- What is emitted fits the signature: the plans of a policy that was read cause what fits, where guards give values of
 -- the sorts that are known.
-use Rattle.enforcer_core.proofs.Vocabulary.{◌≡◌, ℕ, zero, suc, Bool, true, false, ◌&&◌, IsTrue, List, []}
-use Rattle.enforcer_core.proofs.Vocabulary.{◌∷◌, ◌++◌, length, Option, None, Some, refl, sym, subst}
-use Rattle.enforcer_core.proofs.Vocabulary.{slice_get, AllByRecursion, flat_map, option_map, none-some, same_Some}
-use Rattle.enforcer_core.proofs.Vocabulary.{AreTermsInScope, IsTermInScope, AllByRecursion-contains}
-use Rattle.enforcer_core.proofs.Vocabulary.{AllByRecursion-of_append, there_from_get, Valuation, onto_values}
-use Rattle.enforcer_core.proofs.Vocabulary.{value_of_term, values_of_terms, Event, Step, Term, Var, Const, VarId, Value}
-use Rattle.enforcer_core.proofs.Vocabulary.{ReadIsWellFormed, nodes, Plan, AtEach, IsScopedNode, IsWellFormed}
-use Rattle.enforcer_core.proofs.Vocabulary.{has_sort-from_sort, has_sort-sort, FillColumns, FitsSignature}
-use Rattle.enforcer_core.proofs.Vocabulary.{entry_columns, has_sort, value_sort, NameEntry, Sort, AreRight}
-use Rattle.enforcer_core.proofs.Vocabulary.{GuardsGiveRight, TraceEventsFit, CausesFit, FollowedFits, FillsColumns}
-use Rattle.enforcer_core.proofs.Vocabulary.{PlansKeepToSignature, KeepsSorts, PolicyKeepsSorts, ReadIsSorted, FillSorts}
-use Rattle.enforcer_core.proofs.Vocabulary.{term_sort, FollowsFitsSignature}
+use Rattle.enforcer_core.proofs.Vocabulary.{◌≡◌, ℕ, zero, suc, Bool, true, false, ◌&&◌, IsTrue, List, [], ◌∷◌, ◌++◌, length, Option, None, Some, refl, sym, subst, slice_get, AllByRecursion, flat_map}
+use Rattle.enforcer_core.proofs.Vocabulary.{option_map, none-some, same_Some, AreTermsInScope, IsTermInScope, AllByRecursion-contains, AllByRecursion-of_append, there_from_get, Valuation, onto_values}
+use Rattle.enforcer_core.proofs.Vocabulary.{value_of_term, values_of_terms, Event, Step, Term, Var, Const, VarId, Value, ReadIsWellFormed, nodes, Plan, AtEach, IsScopedNode, IsWellFormed}
+use Rattle.enforcer_core.proofs.Vocabulary.{has_sort-from_sort, has_sort-sort, FillColumns, FitsSignature, entry_columns, has_sort, value_sort, NameEntry, Sort, AreRight, GuardsGiveRight}
+use Rattle.enforcer_core.proofs.Vocabulary.{TraceEventsFit, CausesFit, FollowedFits, FillsColumns, PlansKeepToSignature, KeepsSorts, PolicyKeepsSorts, ReadIsSorted, FillSorts, term_sort}
+use Rattle.enforcer_core.proofs.Vocabulary.{FollowsFitsSignature}
 use Rattle.enforcer_core.proofs.RightSortLemmas.{AllKeepSorts, gives_right, sorts_in, sorts_keep}
 use Rattle.plan_terms.specs.meaning.Plans as plan
 

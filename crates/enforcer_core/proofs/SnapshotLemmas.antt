@@ -1,19 +1,11 @@
 -- The guards of a policy and their copies have the same operators, which can be numbered.
-use Rattle.enforcer_core.proofs.Vocabulary.{◌≡◌, ◌∙◌, ℕ, ◌<◌, ◌≤◌, ◌^◌, Bool, true, false}
-use Rattle.enforcer_core.proofs.Vocabulary.{cond, List, [], ◌∷◌, All, Option, None, Some, length, map, sum, refl}
-use Rattle.enforcer_core.proofs.Vocabulary.{sym, ap, subst, arith, IsSome, slice_get, AllByRecursion, find, sum_by}
-use Rattle.enforcer_core.proofs.Vocabulary.{option_map, false≢true, All-contains, none-some, same_Some}
-use Rattle.enforcer_core.proofs.Vocabulary.{AllByRecursion-contains, AllByRecursion-from_contains, here, there_from_get}
-use Rattle.enforcer_core.proofs.Vocabulary.{no_values, value_at, variable_cmp, Value, has_deadline, has_number}
-use Rattle.enforcer_core.proofs.Vocabulary.{is_future, nodes_of, Plan, AtEach-found, FoundEndsInTime, FoundIsFirst}
-use Rattle.enforcer_core.proofs.Vocabulary.{scoped_at, FitsScope, only_future, scoped_in_plan, AreWellFormed}
-use Rattle.enforcer_core.proofs.Vocabulary.{AreWithinBounds, IsFrom, IsLastTime, AreRowsRising, all_operators}
-use Rattle.enforcer_core.proofs.Vocabulary.{KeptAreWithinBounds, KeptRow, Step, last_time, most_time, Inserted, Typed}
-use Rattle.enforcer_core.proofs.Vocabulary.{WorkTogether, typed_of, policy_plans, KeptCanBeTakenUp, policy_operators}
-use Rattle.enforcer_core.proofs.Vocabulary.{CanAskIn, CanAskNode, CanAskOf, CanAskRoot, CanAskRoots, CanBePending}
-use Rattle.enforcer_core.proofs.Vocabulary.{PendCanBePending, IsReady, NoneIsOver, Pend, node_of, PendIsOne, MOST_TIME}
-use Rattle.enforcer_core.proofs.Vocabulary.{MOST_HORIZON, HighsAreNear, reach_of, Instance, sum-map, Formula}
-use Rattle.enforcer_core.proofs.Vocabulary.{formula_size, VarId, BoundFormula, NoMoreThanNodes, AreCopies, tree_in}
+use Rattle.enforcer_core.proofs.Vocabulary.{◌≡◌, ◌∙◌, ℕ, ◌<◌, ◌≤◌, ◌^◌, Bool, true, false, cond, List, [], ◌∷◌, All, Option, None, Some, length, map, sum, refl, sym, ap, subst, arith, IsSome}
+use Rattle.enforcer_core.proofs.Vocabulary.{slice_get, AllByRecursion, find, sum_by, option_map, false≢true, All-contains, none-some, same_Some, AllByRecursion-contains, AllByRecursion-from_contains}
+use Rattle.enforcer_core.proofs.Vocabulary.{here, there_from_get, no_values, value_at, variable_cmp, Value, has_deadline, has_number, is_future, nodes_of, Plan, AtEach-found, FoundEndsInTime}
+use Rattle.enforcer_core.proofs.Vocabulary.{FoundIsFirst, scoped_at, FitsScope, only_future, scoped_in_plan, AreWellFormed, AreWithinBounds, IsFrom, IsLastTime, AreRowsRising, all_operators}
+use Rattle.enforcer_core.proofs.Vocabulary.{KeptAreWithinBounds, KeptRow, Step, last_time, most_time, Inserted, Typed, WorkTogether, typed_of, policy_plans, KeptCanBeTakenUp, policy_operators}
+use Rattle.enforcer_core.proofs.Vocabulary.{CanAskIn, CanAskNode, CanAskOf, CanAskRoot, CanAskRoots, CanBePending, PendCanBePending, IsReady, NoneIsOver, Pend, node_of, PendIsOne, MOST_TIME}
+use Rattle.enforcer_core.proofs.Vocabulary.{MOST_HORIZON, HighsAreNear, reach_of, Instance, sum-map, Formula, formula_size, VarId, BoundFormula, NoMoreThanNodes, AreCopies, tree_in}
 use Rattle.enforcer_core.proofs.Vocabulary.{formulas_of_guards, PlacedGuard, guards_of}
 use Rattle.enforcer_core.proofs.ReachLemmas.{due_at, over_from, reach_later}
 use Rattle.std.specs.FinMap as finite

@@ -1,17 +1,10 @@
 -- One step that is emitted: it misses nothing, whichever kind it is of, and an enforcer stands for the trace with it.
-use Rattle.enforcer_core.proofs.Vocabulary.{◌≡◌, ℕ, suc, ◌≤◌, Bool, true, false, List, [], ◌∷◌}
-use Rattle.enforcer_core.proofs.Vocabulary.{◌++◌, map, refl, sym, ap, subst, ◌∙◌, arith, ⊎_elim, inl}
-use Rattle.enforcer_core.proofs.Vocabulary.{Option, None, Some, Contains, AllByRecursion, eqb-true, All-from_recursion}
-use Rattle.enforcer_core.proofs.Vocabulary.{AllByRecursion-from_contains, AllByRecursion-of_append, HasNoRepeats}
-use Rattle.enforcer_core.proofs.Vocabulary.{Valuation, no_values, Event, Step, last_time, StepKind, Plan, CausePlan}
-use Rattle.enforcer_core.proofs.Vocabulary.{SuppressPlan, Both, Either, TestOr, Guarded, EventuallyPlan, AlwaysPlan}
-use Rattle.enforcer_core.proofs.Vocabulary.{UntilPlan, NextPlan, LacksNothing, LacksSome, time_now, Missing}
-use Rattle.enforcer_core.proofs.Vocabulary.{deadline_is_listed, listed_is_deadline, MissingIsOne, AtNode, HasDeadline}
-use Rattle.enforcer_core.proofs.Vocabulary.{IsCleanAt, IsReady, MissesAt, MissingOf, NoneIsOver, Pend, node_of}
-use Rattle.enforcer_core.proofs.Vocabulary.{IsLeastOf, Instance, IsPendingListOf, PendingList, MissesNothing, Waiting}
-use Rattle.enforcer_core.proofs.Vocabulary.{all_asked, is_forced, roots_from, trace_with_step, ActedStep, is_inserted}
-use Rattle.enforcer_core.proofs.Vocabulary.{GoesOut, IsLeastDeadline, StoredTyped, policy_plans, enforcing_at}
-use Rattle.enforcer_core.proofs.Vocabulary.{RemembersTrace, Stands, StepLaws, Remembered}
+use Rattle.enforcer_core.proofs.Vocabulary.{◌≡◌, ℕ, suc, ◌≤◌, Bool, true, false, List, [], ◌∷◌, ◌++◌, map, refl, sym, ap, subst, ◌∙◌, arith, ⊎_elim, inl, Option, None, Some, Contains, AllByRecursion}
+use Rattle.enforcer_core.proofs.Vocabulary.{eqb-true, All-from_recursion, AllByRecursion-from_contains, AllByRecursion-of_append, HasNoRepeats, Valuation, no_values, Event, Step, last_time, StepKind}
+use Rattle.enforcer_core.proofs.Vocabulary.{Plan, CausePlan, SuppressPlan, Both, Either, TestOr, Guarded, EventuallyPlan, AlwaysPlan, UntilPlan, NextPlan, LacksNothing, LacksSome, time_now, Missing}
+use Rattle.enforcer_core.proofs.Vocabulary.{deadline_is_listed, listed_is_deadline, MissingIsOne, AtNode, HasDeadline, IsCleanAt, IsReady, MissesAt, MissingOf, NoneIsOver, Pend, node_of, IsLeastOf}
+use Rattle.enforcer_core.proofs.Vocabulary.{Instance, IsPendingListOf, PendingList, MissesNothing, Waiting, all_asked, is_forced, roots_from, trace_with_step, ActedStep, is_inserted, GoesOut}
+use Rattle.enforcer_core.proofs.Vocabulary.{IsLeastDeadline, StoredTyped, policy_plans, enforcing_at, RemembersTrace, Stands, StepLaws, Remembered}
 
 -- ---- deadlines
 

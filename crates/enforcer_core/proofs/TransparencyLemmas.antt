@@ -1,22 +1,13 @@
 -- A lawful system is left alone: what is justified is owed and lost, and where the plans are transparent nothing that is
 -- owed is lost.
-use Rattle.enforcer_core.proofs.Vocabulary.{◌≡◌, ℕ, ◌+◌, ◌<◌, ◌≤◌, IsTrue, false, List, []}
-use Rattle.enforcer_core.proofs.Vocabulary.{◌∷◌, ◌++◌, length, refl, sym, ap, subst, ◌∙◌, append_assoc}
-use Rattle.enforcer_core.proofs.Vocabulary.{arith, length-append, ⊎_elim, Some, AllByRecursion, AllZip, append-nil}
-use Rattle.enforcer_core.proofs.Vocabulary.{All-from_recursion, recursion_from_All, IsTrace, AllByRecursion-weaker}
-use Rattle.enforcer_core.proofs.Vocabulary.{Valuation, no_values, Event, Step, VarId, Formula, Sat, Continuation}
-use Rattle.enforcer_core.proofs.Vocabulary.{last_time, Good, Satisfies, Record, NeverFall, StepRecord, Tick}
-use Rattle.enforcer_core.proofs.Vocabulary.{clock_after, recorded, time_of, GoodFromEarlier, GoodFromLonger}
-use Rattle.enforcer_core.proofs.Vocabulary.{LastIsTheNew, SatisfyingIsGood, TraceGrows, StepKind, Inserted, System}
-use Rattle.enforcer_core.proofs.Vocabulary.{IsLost, Plan, node_in, AreWellFormed, DeadlinesAreNotLost}
-use Rattle.enforcer_core.proofs.Vocabulary.{OwedNodesAreNotLost, RootsAreNotLost, is_transparent, PlanMeans}
-use Rattle.enforcer_core.proofs.Vocabulary.{PolicyKeepsMeaning, WorkTogether, typed_of, IsNeeded, IsReady, Action}
-use Rattle.enforcer_core.proofs.Vocabulary.{Decides, ActedStep, as_it_came, untouched, AllAreJustified, AreJustified}
-use Rattle.enforcer_core.proofs.Vocabulary.{StepIsJustified, steps_of, Follows, FollowsDrain, GoesOut, AreDistinct}
-use Rattle.enforcer_core.proofs.Vocabulary.{Enforcing, enforcer_plans, acted_steps, formulas_for, FollowsDrainFrom}
-use Rattle.enforcer_core.proofs.Vocabulary.{FollowsFrom, Stands, DrainsNothing, LeavesAlone, DrainIsJustified}
-use Rattle.enforcer_core.proofs.Vocabulary.{FollowsIsJustified, FollowsAlone, NothingDrains, CourseIsTransparent}
-use Rattle.enforcer_core.proofs.Vocabulary.{CourseIsTransparentToEnd}
+use Rattle.enforcer_core.proofs.Vocabulary.{◌≡◌, ℕ, ◌+◌, ◌<◌, ◌≤◌, IsTrue, false, List, [], ◌∷◌, ◌++◌, length, refl, sym, ap, subst, ◌∙◌, append_assoc, arith, length-append, ⊎_elim, Some}
+use Rattle.enforcer_core.proofs.Vocabulary.{AllByRecursion, AllZip, append-nil, All-from_recursion, recursion_from_All, IsTrace, AllByRecursion-weaker, Valuation, no_values, Event, Step, VarId}
+use Rattle.enforcer_core.proofs.Vocabulary.{Formula, Sat, Continuation, last_time, Good, Satisfies, Record, NeverFall, StepRecord, Tick, clock_after, recorded, time_of, GoodFromEarlier}
+use Rattle.enforcer_core.proofs.Vocabulary.{GoodFromLonger, LastIsTheNew, SatisfyingIsGood, TraceGrows, StepKind, Inserted, System, IsLost, Plan, node_in, AreWellFormed, DeadlinesAreNotLost}
+use Rattle.enforcer_core.proofs.Vocabulary.{OwedNodesAreNotLost, RootsAreNotLost, is_transparent, PlanMeans, PolicyKeepsMeaning, WorkTogether, typed_of, IsNeeded, IsReady, Action, Decides, ActedStep}
+use Rattle.enforcer_core.proofs.Vocabulary.{as_it_came, untouched, AllAreJustified, AreJustified, StepIsJustified, steps_of, Follows, FollowsDrain, GoesOut, AreDistinct, Enforcing, enforcer_plans}
+use Rattle.enforcer_core.proofs.Vocabulary.{acted_steps, formulas_for, FollowsDrainFrom, FollowsFrom, Stands, DrainsNothing, LeavesAlone, DrainIsJustified, FollowsIsJustified, FollowsAlone}
+use Rattle.enforcer_core.proofs.Vocabulary.{NothingDrains, CourseIsTransparent, CourseIsTransparentToEnd}
 use Rattle.enforcer_core.proofs.CourseLemmas.{same_plans}
 
 -- ---- times

@@ -1,24 +1,14 @@
 -- What an inserted step causes is not ranked below what was owed at its time.
-use Rattle.enforcer_core.proofs.Vocabulary.{◌≡◌, ◌⊎◌, ℕ, suc, ◌≤◌, Bool, true, false, List, []}
-use Rattle.enforcer_core.proofs.Vocabulary.{◌∷◌, ◌++◌, length, map, Contains, Option, None, Some}
-use Rattle.enforcer_core.proofs.Vocabulary.{length-append, refl, sym, ap, subst, arith, inl, inr, ⊎_elim, find}
-use Rattle.enforcer_core.proofs.Vocabulary.{option_or, none-some, step_at, AllByRecursion-find}
-use Rattle.enforcer_core.proofs.Vocabulary.{AllByRecursion-from_contains, Contains-append, first_or_later, here, later}
-use Rattle.enforcer_core.proofs.Vocabulary.{none_in_nil, there_from_get, Contains-from_map, no_values, Event, NameId}
-use Rattle.enforcer_core.proofs.Vocabulary.{Step, IsCaused, caused_at, caused_below, suppressed_at, suppressed_below}
-use Rattle.enforcer_core.proofs.Vocabulary.{has_deadline, has_number, nodes, nodes_of, Plan, CausePlan, SuppressPlan}
-use Rattle.enforcer_core.proofs.Vocabulary.{Both, Either, TestOr, Guarded, EventuallyPlan, AlwaysPlan, UntilPlan}
-use Rattle.enforcer_core.proofs.Vocabulary.{NextPlan, guard_triggers, IsRank, rank_in, EdgesRise, Edge, IsPath, IsStart}
-use Rattle.enforcer_core.proofs.Vocabulary.{begun_later, below, needs_trigger, path_triggers, AllIsTriggered}
-use Rattle.enforcer_core.proofs.Vocabulary.{AreAccepted, ChangesEvents, IsLeaf, time_now, Missing, last_position}
-use Rattle.enforcer_core.proofs.Vocabulary.{AtNode, MissesAt, MissingOf, node_of, IsMissedIn, IsReached, last_events}
-use Rattle.enforcer_core.proofs.Vocabulary.{AreMetBy, IsReachedBy, MissedIsReached, ReachedIsInside, Action, Instance}
-use Rattle.enforcer_core.proofs.Vocabulary.{Literal, LiteralKind, Applies, Candidate, Decides, IsFirstMissing}
-use Rattle.enforcer_core.proofs.Vocabulary.{CandidateMisses, Root, Waiting, all_asked, is_forced, roots_from}
-use Rattle.enforcer_core.proofs.Vocabulary.{trace_with_step}
+use Rattle.enforcer_core.proofs.Vocabulary.{◌≡◌, ◌⊎◌, ℕ, suc, ◌≤◌, Bool, true, false, List, [], ◌∷◌, ◌++◌, length, map, Contains, Option, None, Some, length-append, refl, sym, ap, subst, arith, inl}
+use Rattle.enforcer_core.proofs.Vocabulary.{inr, ⊎_elim, find, option_or, none-some, step_at, AllByRecursion-find, AllByRecursion-from_contains, Contains-append, first_or_later, here, later}
+use Rattle.enforcer_core.proofs.Vocabulary.{none_in_nil, there_from_get, Contains-from_map, no_values, Event, NameId, Step, IsCaused, caused_at, caused_below, suppressed_at, suppressed_below}
+use Rattle.enforcer_core.proofs.Vocabulary.{has_deadline, has_number, nodes, nodes_of, Plan, CausePlan, SuppressPlan, Both, Either, TestOr, Guarded, EventuallyPlan, AlwaysPlan, UntilPlan, NextPlan}
+use Rattle.enforcer_core.proofs.Vocabulary.{guard_triggers, IsRank, rank_in, EdgesRise, Edge, IsPath, IsStart, begun_later, below, needs_trigger, path_triggers, AllIsTriggered, AreAccepted}
+use Rattle.enforcer_core.proofs.Vocabulary.{ChangesEvents, IsLeaf, time_now, Missing, last_position, AtNode, MissesAt, MissingOf, node_of, IsMissedIn, IsReached, last_events, AreMetBy, IsReachedBy}
+use Rattle.enforcer_core.proofs.Vocabulary.{MissedIsReached, ReachedIsInside, Action, Instance, Literal, LiteralKind, Applies, Candidate, Decides, IsFirstMissing, CandidateMisses, Root, Waiting}
+use Rattle.enforcer_core.proofs.Vocabulary.{all_asked, is_forced, roots_from, trace_with_step}
 use Rattle.std.proofs.Common.{slice_get}
-use Rattle.enforcer_core.proofs.ClassLemmas.{IsBehind, below_in, caused_in, in_flat, least, least_behind, least_caused}
-use Rattle.enforcer_core.proofs.ClassLemmas.{nodes_in, self_in}
+use Rattle.enforcer_core.proofs.ClassLemmas.{IsBehind, below_in, caused_in, in_flat, least, least_behind, least_caused, nodes_in, self_in}
 use Rattle.obligations.specs.declared.literals.LiteralKind.TheVariants as kind
 
 -- ---- paths that are met

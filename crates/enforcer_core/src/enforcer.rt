@@ -30,15 +30,15 @@ use save_codec::Snapshot;
 use std::alloc::Global;
 use std::marker::Model;
 
-/// An enforcer of a policy, seen as the policy, what its guards remember, what is pending, the number of the steps that
-/// was emitted, the time of the last one, the clock and whether it is stopped.
+/// An enforcer of a policy, seen as the policy, what its guards remember, what is pending, how many steps were emitted,
+/// the time of the last one, the clock and whether it is stopped.
 #[derive(Drop)]
 pub struct Enforcer {
     policy: TypedPolicy,
     facts: PlanFacts,
     remembered: Remembered,
     clock: u64,
-    // where a call wants memory, it leaves this set
+    // a call that runs out of memory leaves this set
     stopped: bool,
 }
 
@@ -171,7 +171,7 @@ impl Enforcer {
         self.remembered.pending.len()
     }
 
-    /// Whether an earlier call wanted memory; each later call is then refused.
+    /// Whether an earlier call ran out of memory; each later call is then refused.
     pub fn is_stopped(&self) -> bool
         ensures { result ≡ self.now.stopped }
     {

@@ -129,10 +129,10 @@ pub fn saved_keeps_bounds()
 }
 
 /// After a trace of which the events are of the signature, what is emitted for records of which they are has such too.
-pub fn what_goes_out_fits()
+pub fn what_is_emitted_fits()
     ensures { FollowsFitsSignature }
 {
-    choice_step::laws::what_goes_out_fits();
+    choice_step::laws::what_is_emitted_fits();
     read_is_sorted();
     read_is_well_formed();
     plans_keep_sorts();

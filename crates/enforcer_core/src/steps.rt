@@ -123,7 +123,7 @@ pub struct StepOut {
 pub enum StepRefusal {
     /// The given time is below the clock.
     Falling { clock: u64, given: u64 },
-    /// An earlier call wanted memory.
+    /// An earlier call ran out of memory.
     Stopped,
     NoMemory,
 }

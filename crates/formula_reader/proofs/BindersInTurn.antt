@@ -1,8 +1,6 @@
 -- Variables that are bound in turn.
-use Rattle.formula_reader.proofs.Vocabulary.{◌≡◌, ◌≢◌, ◌<◌, ◌+◌, ◌∷◌, List, length, drop}
-use Rattle.formula_reader.proofs.Vocabulary.{get_or, Some, Result, Err, refl, ◌∙◌, drop-cons, add-one, ℕ}
-use Rattle.formula_reader.proofs.Vocabulary.{VariableSorts, IsRefusedPass, pass, binder_points, variable_named}
-use Rattle.formula_reader.proofs.Vocabulary.{binder_refusal, PolicyRefusal, NoMemory, Binding, NameEntry, VarId}
+use Rattle.formula_reader.proofs.Vocabulary.{◌≡◌, ◌≢◌, ◌<◌, ◌+◌, ◌∷◌, List, length, drop, get_or, Some, Result, Err, refl, ◌∙◌, drop-cons, add-one, ℕ, VariableSorts, IsRefusedPass, pass}
+use Rattle.formula_reader.proofs.Vocabulary.{binder_points, variable_named, binder_refusal, PolicyRefusal, NoMemory, Binding, NameEntry, VarId}
 
 -- a variable that is refused refuses those that are bound from it on
 pub bind_refused : (entries : List NameEntry) (sorts : VariableSorts) (names : List (List ℕ)) (scope : List VarId) (xs : List Binding) (i : ℕ) (x : Binding)

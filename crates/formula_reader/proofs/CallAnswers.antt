@@ -1,8 +1,6 @@
 -- A call that answers by the rules gives their answer, and no other.
-use Rattle.formula_reader.proofs.Vocabulary.{◌≡◌, ◌≢◌, List, None, Some, Result, Ok, Err, sym, ◌∙◌}
-use Rattle.formula_reader.proofs.Vocabulary.{NameEntry, CallGivesPolicy, GivesResolutionAnswer, IsResolutionAnswer}
-use Rattle.formula_reader.proofs.Vocabulary.{Rule, rules_in, policy_refusal, PolicyRefusal, Syntax, UnknownName, Arity}
-use Rattle.formula_reader.proofs.Vocabulary.{SortClash, FreeVariable, Rebound, Limit, NoMemory}
+use Rattle.formula_reader.proofs.Vocabulary.{◌≡◌, ◌≢◌, List, None, Some, Result, Ok, Err, sym, ◌∙◌, NameEntry, CallGivesPolicy, GivesResolutionAnswer, IsResolutionAnswer, Rule, rules_in}
+use Rattle.formula_reader.proofs.Vocabulary.{policy_refusal, PolicyRefusal, Syntax, UnknownName, Arity, SortClash, FreeVariable, Rebound, Limit, NoMemory}
 use Rattle.policy_syntax.specs.meaning.Trees as syntax
 
 -- rules have at most one answer

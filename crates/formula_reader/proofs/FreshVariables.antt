@@ -1,10 +1,7 @@
 -- Variables that are numbered in the order of their binding are new where they are bound.
-use Rattle.formula_reader.proofs.Vocabulary.{◌≡◌, ℕ, ◌+◌, ◌<◌, ◌≤◌, zero, suc, Bool, true, false}
-use Rattle.formula_reader.proofs.Vocabulary.{cond, List, [], ◌∷◌, ◌++◌, length, Some, Contains, refl, sym, ap}
-use Rattle.formula_reader.proofs.Vocabulary.{subst, ◌∙◌, arith, slice_get, nat_cmp_is, AllByRecursion}
-use Rattle.formula_reader.proofs.Vocabulary.{numbered_variables, AreTermsInScope, IsTermInScope, variable_cmp, Term}
-use Rattle.formula_reader.proofs.Vocabulary.{Var, Const, VarId, Binding, SyntaxTerm, Variable, Constant, is_named}
-use Rattle.formula_reader.proofs.Vocabulary.{variable_numbered, term_in, variable_named, bound_variables_from, terms_in}
+use Rattle.formula_reader.proofs.Vocabulary.{◌≡◌, ℕ, ◌+◌, ◌<◌, ◌≤◌, zero, suc, Bool, true, false, cond, List, [], ◌∷◌, ◌++◌, length, Some, Contains, refl, sym, ap, subst, ◌∙◌, arith, slice_get}
+use Rattle.formula_reader.proofs.Vocabulary.{nat_cmp_is, AllByRecursion, numbered_variables, AreTermsInScope, IsTermInScope, variable_cmp, Term, Var, Const, VarId, Binding, SyntaxTerm, Variable}
+use Rattle.formula_reader.proofs.Vocabulary.{Constant, is_named, variable_numbered, term_in, variable_named, bound_variables_from, terms_in}
 use Rattle.std.specs.List.Sorted.{IsStrictlySortedBy}
 use Rattle.formula_reader.proofs.OptionLaws.{both_from, one_from}
 use Rattle.std.specs.declared.cmp.Ordering.TheVariants as ordering

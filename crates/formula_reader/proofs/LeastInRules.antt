@@ -1,10 +1,7 @@
 -- Of a text the second pass answers the refusal with the least place.
-use Rattle.formula_reader.proofs.Vocabulary.{◌≡◌, ℕ, ◌+◌, ◌<◌, ◌≤◌, inl, inr, List, [], ◌∷◌}
-use Rattle.formula_reader.proofs.Vocabulary.{◌++◌, Option, None, Some, refl, sym, ap, subst, ◌∙◌, arith}
-use Rattle.formula_reader.proofs.Vocabulary.{AllByRecursion, option_or, IsPolicyText, PolicyRule, NameEntry, Point}
-use Rattle.formula_reader.proofs.Vocabulary.{points, known_after, policy_refusal, rule_refusal, IsLeastInRules}
-use Rattle.formula_reader.proofs.Vocabulary.{PlacesRise, RefusalStands, StandsInRules, place_of_point, refusal_place}
-use Rattle.formula_reader.proofs.Vocabulary.{PolicyRefusal}
+use Rattle.formula_reader.proofs.Vocabulary.{◌≡◌, ℕ, ◌+◌, ◌<◌, ◌≤◌, inl, inr, List, [], ◌∷◌, ◌++◌, Option, None, Some, refl, sym, ap, subst, ◌∙◌, arith, AllByRecursion, option_or, IsPolicyText}
+use Rattle.formula_reader.proofs.Vocabulary.{PolicyRule, NameEntry, Point, points, known_after, policy_refusal, rule_refusal, IsLeastInRules, PlacesRise, RefusalStands, StandsInRules, place_of_point}
+use Rattle.formula_reader.proofs.Vocabulary.{refusal_place, PolicyRefusal}
 use Rattle.formula_reader.proofs.LeastRefusal.{first_least, first_stands, least_first, none_stands, point_place}
 use Rattle.formula_reader.proofs.RisingPlaces.{PlacedFrom, RisesFrom, all_points, policy_follow, tokens_rise}
 

@@ -1,12 +1,8 @@
 -- Where the places of points rise, the first refusal is the one with the least place.
-use Rattle.formula_reader.proofs.Vocabulary.{◌≡◌, ◌==◌, Bool, true, false, cond, ℕ, ◌<◌, ◌≤◌, inl}
-use Rattle.formula_reader.proofs.Vocabulary.{inr, List, [], ◌∷◌, Option, None, Some, refl, sym, ap, ◌∙◌}
-use Rattle.formula_reader.proofs.Vocabulary.{arith, length, AllByRecursion, option_or, VarId, NameEntry, Sort, Int}
-use Rattle.formula_reader.proofs.Vocabulary.{Text, PolicyRefusal, UnknownName, Arity, SortClash, FreeVariable, Rebound}
-use Rattle.formula_reader.proofs.Vocabulary.{Point, EventName, Binder, Use, entry_named, event_name_refusal}
-use Rattle.formula_reader.proofs.Vocabulary.{binder_refusal, sort_clash, known_after, point_refusal}
-use Rattle.formula_reader.proofs.Vocabulary.{first_point_refusal, sort_of_term, wanted_sort, place_of_point}
-use Rattle.formula_reader.proofs.Vocabulary.{refusal_place, PlacesRise, RefusalStands}
+use Rattle.formula_reader.proofs.Vocabulary.{◌≡◌, ◌==◌, Bool, true, false, cond, ℕ, ◌<◌, ◌≤◌, inl, inr, List, [], ◌∷◌, Option, None, Some, refl, sym, ap, ◌∙◌, arith, length, AllByRecursion, option_or}
+use Rattle.formula_reader.proofs.Vocabulary.{VarId, NameEntry, Sort, Int, Text, PolicyRefusal, UnknownName, Arity, SortClash, FreeVariable, Rebound, Point, EventName, Binder, Use, entry_named}
+use Rattle.formula_reader.proofs.Vocabulary.{event_name_refusal, binder_refusal, sort_clash, known_after, point_refusal, first_point_refusal, sort_of_term, wanted_sort, place_of_point, refusal_place}
+use Rattle.formula_reader.proofs.Vocabulary.{PlacesRise, RefusalStands}
 
 name_place : (place terms : ℕ) (entry : Option NameEntry) (refusal : PolicyRefusal) → event_name_refusal place terms entry ≡ Some refusal → refusal_place refusal ≡ place
 name_place place terms None refusal e = let h : UnknownName place ≡ refusal = cc in ap refusal_place (sym h)

@@ -1,8 +1,6 @@
 -- What passing the points of a rule says of the rule.
-use Rattle.formula_reader.proofs.Vocabulary.{◌≡◌, ◌≢◌, ℕ, List, [], None, Some, Ok, Err, refl, sym, ap}
-use Rattle.formula_reader.proofs.Vocabulary.{◌∙◌, ◌++◌, option_map, NameEntry, IsFreshVariables, PassesPoints}
-use Rattle.formula_reader.proofs.Vocabulary.{IsRefusedPass, pass, points, bound_names, Rule, formula_in, rule_in}
-use Rattle.formula_reader.proofs.Vocabulary.{rule_with, rule_refusal, PolicyRefusal, NoMemory, Variables}
+use Rattle.formula_reader.proofs.Vocabulary.{◌≡◌, ◌≢◌, ℕ, List, [], None, Some, Ok, Err, refl, sym, ap, ◌∙◌, ◌++◌, option_map, NameEntry, IsFreshVariables, PassesPoints, IsRefusedPass, pass, points}
+use Rattle.formula_reader.proofs.Vocabulary.{bound_names, Rule, formula_in, rule_in, rule_with, rule_refusal, PolicyRefusal, NoMemory, Variables}
 use Rattle.formula_reader.proofs.SortAgreement.{refused_by, first_is}
 use Rattle.formula_reader.proofs.PointCounts.{formula_counts}
 use Rattle.enf_formula.specs.meaning.Satisfaction as tree

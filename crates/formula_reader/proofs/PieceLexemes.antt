@@ -1,17 +1,10 @@
 -- The tokens of the canonical text of a rule are the lexemes that are written for its syntax tree.
-use Rattle.formula_reader.proofs.Vocabulary.{◌≡◌, ℕ, ◌+◌, true, false, List, [], ◌∷◌, ◌++◌}
-use Rattle.formula_reader.proofs.Vocabulary.{Option, None, Some, map, length, refl, ap, ◌∙◌, append_assoc, codes}
-use Rattle.formula_reader.proofs.Vocabulary.{AllByRecursion, flat_map, is_word, placed_from, token_spelling, Interval}
-use Rattle.formula_reader.proofs.Vocabulary.{Term, Var, Const, VarId, end_lexeme, PolicyLexeme, Symbol, Quantifier}
-use Rattle.formula_reader.proofs.Vocabulary.{NameLexeme, lexeme_of_token, lexeme_of_word, SyntaxTree, IsWritable}
-use Rattle.formula_reader.proofs.Vocabulary.{IsWritableName, IsWritableRule, IsWritableTerm, Leveled, enclosed_lexemes}
-use Rattle.formula_reader.proofs.Vocabulary.{formula_written, interval_written, kinds_written, list_written}
-use Rattle.formula_reader.proofs.Vocabulary.{rule_written, term_written, variable_written, Binding, NameEntry}
-use Rattle.formula_reader.proofs.Vocabulary.{name_text, formula_stands_alone, variable_text, Rule, PrintedPiece}
-use Rattle.formula_reader.proofs.Vocabulary.{word_piece, mark_piece, blank_piece, term_piece, separated_pieces}
-use Rattle.formula_reader.proofs.Vocabulary.{end_piece, interval_pieces, enclosed_pieces, formula_pieces, rule_pieces}
-use Rattle.formula_reader.proofs.Vocabulary.{IsTermText, IsEndText, IsFormulaText, IsRuleText, term_back, binding_back}
-use Rattle.formula_reader.proofs.Vocabulary.{formula_back, rule_back}
+use Rattle.formula_reader.proofs.Vocabulary.{◌≡◌, ℕ, ◌+◌, true, false, List, [], ◌∷◌, ◌++◌, Option, None, Some, map, length, refl, ap, ◌∙◌, append_assoc, codes, AllByRecursion, flat_map, is_word}
+use Rattle.formula_reader.proofs.Vocabulary.{placed_from, token_spelling, Interval, Term, Var, Const, VarId, end_lexeme, PolicyLexeme, Symbol, Quantifier, NameLexeme, lexeme_of_token, lexeme_of_word}
+use Rattle.formula_reader.proofs.Vocabulary.{SyntaxTree, IsWritable, IsWritableName, IsWritableRule, IsWritableTerm, Leveled, enclosed_lexemes, formula_written, interval_written, kinds_written}
+use Rattle.formula_reader.proofs.Vocabulary.{list_written, rule_written, term_written, variable_written, Binding, NameEntry, name_text, formula_stands_alone, variable_text, Rule, PrintedPiece}
+use Rattle.formula_reader.proofs.Vocabulary.{word_piece, mark_piece, blank_piece, term_piece, separated_pieces, end_piece, interval_pieces, enclosed_pieces, formula_pieces, rule_pieces, IsTermText}
+use Rattle.formula_reader.proofs.Vocabulary.{IsEndText, IsFormulaText, IsRuleText, term_back, binding_back, formula_back, rule_back}
 use Rattle.std.proofs.Common.{IsTrue}
 use Rattle.enf_formula.specs.meaning.Satisfaction as tree
 use Rattle.enf_value.specs.declared.tokens.Mark.TheVariants as marks

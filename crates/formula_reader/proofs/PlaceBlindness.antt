@@ -1,20 +1,12 @@
 -- The second pass does not look at places: they stand in its answer alone.
-use Rattle.formula_reader.proofs.Vocabulary.{◌≡◌, ◌==◌, ℕ, ◌+◌, Bool, true, false, cond, List, []}
-use Rattle.formula_reader.proofs.Vocabulary.{◌∷◌, ◌++◌, length, map, Option, None, Some, refl, sym, ap}
-use Rattle.formula_reader.proofs.Vocabulary.{◌∙◌, length-map, map-append, option_map, option_or, Term, VarId}
-use Rattle.formula_reader.proofs.Vocabulary.{Binding, SyntaxTerm, Variable, Constant, SyntaxTree, TrueTree, FalseTree}
-use Rattle.formula_reader.proofs.Vocabulary.{AtomTree, EqualTree, LessTree, AtMostTree, NotTree, AndTree, OrTree}
-use Rattle.formula_reader.proofs.Vocabulary.{ImpliesTree, ExistsTree, ForallTree, PrevTree, NextTree, OnceTree}
-use Rattle.formula_reader.proofs.Vocabulary.{HistoricallyTree, SinceTree, EventuallyTree, AlwaysTree, UntilTree}
-use Rattle.formula_reader.proofs.Vocabulary.{entry_columns, NameEntry, Sort, Int, Text, bare_tree, bare_refusal}
-use Rattle.formula_reader.proofs.Vocabulary.{bare_resolved, bare_syntax_tree, bare_binding, bare_rule, bare_term}
-use Rattle.formula_reader.proofs.Vocabulary.{Wanted, NoSortWanted, ThisSort, SortOf, Point, EventName, Binder, Use}
-use Rattle.formula_reader.proofs.Vocabulary.{entry_named, use_of, argument_points, binder_points, points, term_in}
-use Rattle.formula_reader.proofs.Vocabulary.{bound_names, binding_names, variable_numbered, bound_variables_from}
-use Rattle.formula_reader.proofs.Vocabulary.{variable_named, Rule, with_both, name_in, terms_in, formula_in, rule_in}
-use Rattle.formula_reader.proofs.Vocabulary.{rule_with, sort_of_term, wanted_sort, sort_given, known_after}
-use Rattle.formula_reader.proofs.Vocabulary.{event_name_refusal, binder_refusal, sort_clash, point_refusal}
-use Rattle.formula_reader.proofs.Vocabulary.{first_point_refusal, rule_refusal, PolicyRefusal, Arity}
+use Rattle.formula_reader.proofs.Vocabulary.{◌≡◌, ◌==◌, ℕ, ◌+◌, Bool, true, false, cond, List, [], ◌∷◌, ◌++◌, length, map, Option, None, Some, refl, sym, ap, ◌∙◌, length-map, map-append, option_map}
+use Rattle.formula_reader.proofs.Vocabulary.{option_or, Term, VarId, Binding, SyntaxTerm, Variable, Constant, SyntaxTree, TrueTree, FalseTree, AtomTree, EqualTree, LessTree, AtMostTree, NotTree}
+use Rattle.formula_reader.proofs.Vocabulary.{AndTree, OrTree, ImpliesTree, ExistsTree, ForallTree, PrevTree, NextTree, OnceTree, HistoricallyTree, SinceTree, EventuallyTree, AlwaysTree, UntilTree}
+use Rattle.formula_reader.proofs.Vocabulary.{entry_columns, NameEntry, Sort, Int, Text, bare_tree, bare_refusal, bare_resolved, bare_syntax_tree, bare_binding, bare_rule, bare_term, Wanted}
+use Rattle.formula_reader.proofs.Vocabulary.{NoSortWanted, ThisSort, SortOf, Point, EventName, Binder, Use, entry_named, use_of, argument_points, binder_points, points, term_in, bound_names}
+use Rattle.formula_reader.proofs.Vocabulary.{binding_names, variable_numbered, bound_variables_from, variable_named, Rule, with_both, name_in, terms_in, formula_in, rule_in, rule_with, sort_of_term}
+use Rattle.formula_reader.proofs.Vocabulary.{wanted_sort, sort_given, known_after, event_name_refusal, binder_refusal, sort_clash, point_refusal, first_point_refusal, rule_refusal, PolicyRefusal}
+use Rattle.formula_reader.proofs.Vocabulary.{Arity}
 use Rattle.formula_reader.proofs.SortAgreement.{same_given, same_refusal}
 use Rattle.enf_formula.specs.meaning.Satisfaction as tree
 use Rattle.policy_syntax.specs.meaning.Trees as syntax

@@ -1,15 +1,10 @@
 -- The points of a formula use variables that were bound before them, and bind those that the formula binds.
-use Rattle.formula_reader.proofs.Vocabulary.{◌≡◌, ℕ, ◌+◌, ◌<◌, Bool, true, false, List, [], ◌∷◌}
-use Rattle.formula_reader.proofs.Vocabulary.{◌++◌, length, Option, None, Some, refl, sym, ap, subst, ◌∙◌}
-use Rattle.formula_reader.proofs.Vocabulary.{arith, slice_get, length-append, length-map, slice_get_within, option_map}
-use Rattle.formula_reader.proofs.Vocabulary.{Var, VarId, Binding, SyntaxTerm, Variable, Constant, SyntaxTree, TrueTree}
-use Rattle.formula_reader.proofs.Vocabulary.{FalseTree, AtomTree, EqualTree, LessTree, AtMostTree, NotTree, AndTree}
-use Rattle.formula_reader.proofs.Vocabulary.{OrTree, ImpliesTree, ExistsTree, ForallTree, PrevTree, NextTree, OnceTree}
-use Rattle.formula_reader.proofs.Vocabulary.{HistoricallyTree, SinceTree, EventuallyTree, AlwaysTree, UntilTree}
-use Rattle.formula_reader.proofs.Vocabulary.{entry_columns, NameEntry, Sort, Int, Wanted, NoSortWanted, ThisSort}
-use Rattle.formula_reader.proofs.Vocabulary.{SortOf, Point, EventName, Binder, Use, entry_named, use_of}
-use Rattle.formula_reader.proofs.Vocabulary.{argument_points, binder_points, points, is_named, variable_named, term_in}
-use Rattle.formula_reader.proofs.Vocabulary.{bound_names, binding_names, variable_numbered, bound_variables_from}
+use Rattle.formula_reader.proofs.Vocabulary.{◌≡◌, ℕ, ◌+◌, ◌<◌, Bool, true, false, List, [], ◌∷◌, ◌++◌, length, Option, None, Some, refl, sym, ap, subst, ◌∙◌, arith, slice_get, length-append}
+use Rattle.formula_reader.proofs.Vocabulary.{length-map, slice_get_within, option_map, Var, VarId, Binding, SyntaxTerm, Variable, Constant, SyntaxTree, TrueTree, FalseTree, AtomTree, EqualTree}
+use Rattle.formula_reader.proofs.Vocabulary.{LessTree, AtMostTree, NotTree, AndTree, OrTree, ImpliesTree, ExistsTree, ForallTree, PrevTree, NextTree, OnceTree, HistoricallyTree, SinceTree}
+use Rattle.formula_reader.proofs.Vocabulary.{EventuallyTree, AlwaysTree, UntilTree, entry_columns, NameEntry, Sort, Int, Wanted, NoSortWanted, ThisSort, SortOf, Point, EventName, Binder, Use}
+use Rattle.formula_reader.proofs.Vocabulary.{entry_named, use_of, argument_points, binder_points, points, is_named, variable_named, term_in, bound_names, binding_names, variable_numbered}
+use Rattle.formula_reader.proofs.Vocabulary.{bound_variables_from}
 use Rattle.formula_reader.proofs.SortAgreement.{InScope, WantedInScope, Fits}
 
 -- how many variables are bound at points

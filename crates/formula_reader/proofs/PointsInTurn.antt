@@ -1,11 +1,7 @@
 -- Points that are passed in turn: of two operands, and of a quantifier's variables and its formula.
-use Rattle.formula_reader.proofs.Vocabulary.{◌≡◌, ◌++◌, ◌∷◌, [], ℕ, List, length, take, Option, None}
-use Rattle.formula_reader.proofs.Vocabulary.{Some, Result, Ok, Err, sym, refl, ap, ◌∙◌, append_assoc}
-use Rattle.formula_reader.proofs.Vocabulary.{take-append_seam, VariableSorts, BindsQuantified, PassesPoints}
-use Rattle.formula_reader.proofs.Vocabulary.{IsRefusedPass, pass, passed_on, points_of_both, points_of_bound, both_in}
-use Rattle.formula_reader.proofs.Vocabulary.{body_in, sorts_behind, known_in, Point, points, binder_points, bound_names}
-use Rattle.formula_reader.proofs.Vocabulary.{binding_names, bound_variables_from, formula_in, point_refusal}
-use Rattle.formula_reader.proofs.Vocabulary.{PolicyRefusal, Variables, Binding, SyntaxTree, NameEntry}
+use Rattle.formula_reader.proofs.Vocabulary.{◌≡◌, ◌++◌, ◌∷◌, [], ℕ, List, length, take, Option, None, Some, Result, Ok, Err, sym, refl, ap, ◌∙◌, append_assoc, take-append_seam, VariableSorts}
+use Rattle.formula_reader.proofs.Vocabulary.{BindsQuantified, PassesPoints, IsRefusedPass, pass, passed_on, points_of_both, points_of_bound, both_in, body_in, sorts_behind, known_in, Point, points}
+use Rattle.formula_reader.proofs.Vocabulary.{binder_points, bound_names, binding_names, bound_variables_from, formula_in, point_refusal, PolicyRefusal, Variables, Binding, SyntaxTree, NameEntry}
 use Rattle.enf_formula.specs.meaning.Satisfaction as tree
 
 goes_on : (refusal : Option PolicyRefusal) (rest whole other : Result VariableSorts PolicyRefusal) (sorts : VariableSorts)

@@ -1,17 +1,10 @@
 -- The tokens of the canonical text, printed, are that text.
-use Rattle.formula_reader.proofs.Vocabulary.{◌≡◌, ℕ, Bool, true, false, List, [], ◌∷◌, ◌++◌, Option}
-use Rattle.formula_reader.proofs.Vocabulary.{None, Some, codes, refl, sym, ap, ◌∙◌, append_assoc, decimal}
-use Rattle.formula_reader.proofs.Vocabulary.{append-nil, flat_map, Formula, True, False, Atom, Equal, Less, AtMost, Not}
-use Rattle.formula_reader.proofs.Vocabulary.{And, Or, Implies, Exists, Forall, Prev, Next, Once, Historically, Since}
-use Rattle.formula_reader.proofs.Vocabulary.{Eventually, Always, Until, printed_tokens, token_spelling, spelling-value}
-use Rattle.formula_reader.proofs.Vocabulary.{mark_text, Interval, Term, Var, Const, VarId, Mark as AnyMark, NameEntry}
-use Rattle.formula_reader.proofs.Vocabulary.{name_text, term_text, separated_text, end_text, interval_text}
-use Rattle.formula_reader.proofs.Vocabulary.{formula_stands_alone, enclosed_text, comparison_text, prefix_text}
-use Rattle.formula_reader.proofs.Vocabulary.{infix_text, quantified_text, formula_text, rule_text, variable_text, Rule}
-use Rattle.formula_reader.proofs.Vocabulary.{PrintedPiece, word_piece, mark_piece, blank_piece, term_piece}
-use Rattle.formula_reader.proofs.Vocabulary.{separated_pieces, end_piece, interval_pieces, enclosed_pieces}
-use Rattle.formula_reader.proofs.Vocabulary.{comparison_pieces, prefix_pieces, infix_pieces, quantified_pieces}
-use Rattle.formula_reader.proofs.Vocabulary.{formula_pieces, rule_pieces}
+use Rattle.formula_reader.proofs.Vocabulary.{◌≡◌, ℕ, Bool, true, false, List, [], ◌∷◌, ◌++◌, Option, None, Some, codes, refl, sym, ap, ◌∙◌, append_assoc, decimal, append-nil, flat_map, Formula, True}
+use Rattle.formula_reader.proofs.Vocabulary.{False, Atom, Equal, Less, AtMost, Not, And, Or, Implies, Exists, Forall, Prev, Next, Once, Historically, Since, Eventually, Always, Until, printed_tokens}
+use Rattle.formula_reader.proofs.Vocabulary.{token_spelling, spelling-value, mark_text, Interval, Term, Var, Const, VarId, Mark as AnyMark, NameEntry, name_text, term_text, separated_text, end_text}
+use Rattle.formula_reader.proofs.Vocabulary.{interval_text, formula_stands_alone, enclosed_text, comparison_text, prefix_text, infix_text, quantified_text, formula_text, rule_text, variable_text}
+use Rattle.formula_reader.proofs.Vocabulary.{Rule, PrintedPiece, word_piece, mark_piece, blank_piece, term_piece, separated_pieces, end_piece, interval_pieces, enclosed_pieces, comparison_pieces}
+use Rattle.formula_reader.proofs.Vocabulary.{prefix_pieces, infix_pieces, quantified_pieces, formula_pieces, rule_pieces}
 use Rattle.enf_value.specs.declared.tokens.Mark.TheVariants as marks
 
 pub printed-append : (a b : List PrintedPiece) → printed_tokens (a ++ b) ≡ printed_tokens a ++ printed_tokens b

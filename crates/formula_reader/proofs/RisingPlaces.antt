@@ -1,22 +1,13 @@
 -- The places of the points of a text rise.
-use Rattle.formula_reader.proofs.Vocabulary.{◌≡◌, ℕ, ◌+◌, ◌≤◌, zero, suc, Bool, true, false, List, []}
-use Rattle.formula_reader.proofs.Vocabulary.{◌∷◌, ◌++◌, Option, None, Some, map, length, refl, sym, subst}
-use Rattle.formula_reader.proofs.Vocabulary.{arith, append_assoc, option_to_list, Token, tokens_from, piece_at}
-use Rattle.formula_reader.proofs.Vocabulary.{Interval, VarId, TermPhrase, TermsPhrase, VariablesPhrase, IntervalPhrase}
-use Rattle.formula_reader.proofs.Vocabulary.{FormulaPhrase, OrPhrase, AndPhrase, InfixPhrase, UnaryPhrase}
-use Rattle.formula_reader.proofs.Vocabulary.{PrimaryPhrase, RulePhrase, Plain, Minus, Quoted, LastTerm, NextTerm}
-use Rattle.formula_reader.proofs.Vocabulary.{LastVariable, NextVariable, OneSide, Implication, OneCase, Disjunction}
-use Rattle.formula_reader.proofs.Vocabulary.{OnePart, Conjunction, OneOperand, Between, Negation, Before, Quantified}
-use Rattle.formula_reader.proofs.Vocabulary.{Primary, Parenthesis, Event, Comparison, spell, end_lexeme, scope_behind}
-use Rattle.formula_reader.proofs.Vocabulary.{term_place, term_lexeme, PolicyLexeme, PlacedLexeme, Symbol, Truth, Prefix}
-use Rattle.formula_reader.proofs.Vocabulary.{Infix, Quantifier, Sign, NameLexeme, DigitsLexeme, lexeme_of_token}
-use Rattle.formula_reader.proofs.Vocabulary.{SyntaxTree, PolicyRule, Binding, entry_columns, NameEntry, Sort, Int}
-use Rattle.formula_reader.proofs.Vocabulary.{NoSortWanted, ThisSort, SortOf, Point, EventName, Binder, argument_points}
-use Rattle.formula_reader.proofs.Vocabulary.{binder_points, entry_named, syntax_term_place, points, use_of, bound_names}
-use Rattle.formula_reader.proofs.Vocabulary.{binding_names, variable_numbered, term_in, variable_named}
+use Rattle.formula_reader.proofs.Vocabulary.{◌≡◌, ℕ, ◌+◌, ◌≤◌, zero, suc, Bool, true, false, List, [], ◌∷◌, ◌++◌, Option, None, Some, map, length, refl, sym, subst, arith, append_assoc}
+use Rattle.formula_reader.proofs.Vocabulary.{option_to_list, Token, tokens_from, piece_at, Interval, VarId, TermPhrase, TermsPhrase, VariablesPhrase, IntervalPhrase, FormulaPhrase, OrPhrase}
+use Rattle.formula_reader.proofs.Vocabulary.{AndPhrase, InfixPhrase, UnaryPhrase, PrimaryPhrase, RulePhrase, Plain, Minus, Quoted, LastTerm, NextTerm, LastVariable, NextVariable, OneSide, Implication}
+use Rattle.formula_reader.proofs.Vocabulary.{OneCase, Disjunction, OnePart, Conjunction, OneOperand, Between, Negation, Before, Quantified, Primary, Parenthesis, Event, Comparison, spell, end_lexeme}
+use Rattle.formula_reader.proofs.Vocabulary.{scope_behind, term_place, term_lexeme, PolicyLexeme, PlacedLexeme, Symbol, Truth, Prefix, Infix, Quantifier, Sign, NameLexeme, DigitsLexeme}
+use Rattle.formula_reader.proofs.Vocabulary.{lexeme_of_token, SyntaxTree, PolicyRule, Binding, entry_columns, NameEntry, Sort, Int, NoSortWanted, ThisSort, SortOf, Point, EventName, Binder}
+use Rattle.formula_reader.proofs.Vocabulary.{argument_points, binder_points, entry_named, syntax_term_place, points, use_of, bound_names, binding_names, variable_numbered, term_in, variable_named}
 use Rattle.formula_reader.proofs.Vocabulary.{bound_variables_from, place_of_point}
-use Rattle.policy_syntax.specs.meaning.Phrases.{Variable}
-use Rattle.policy_syntax.specs.meaning.Phrases.{Constant}
+use Rattle.policy_syntax.specs.meaning.Phrases.{Variable, Constant}
 use Rattle.enf_value.specs.meaning.Tokens as token
 use Rattle.policy_syntax.specs.meaning.Grammar as grammar
 use Rattle.policy_syntax.specs.meaning.Phrases as phrases

@@ -1,14 +1,9 @@
 -- The canonical text of a rule of a policy is read as that rule but for its places.
-use Rattle.formula_reader.proofs.Vocabulary.{◌≡◌, ℕ, ◌<◌, zero, suc, List, [], ◌∷◌, Option, None}
-use Rattle.formula_reader.proofs.Vocabulary.{Some, Result, Ok, Err, map, length, slice_index_or, refl, sym, ap, subst}
-use Rattle.formula_reader.proofs.Vocabulary.{◌∙◌, arith, AllByRecursion, option_map, option_or, PrintedIsCut}
-use Rattle.formula_reader.proofs.Vocabulary.{placed_from, tokens, PlacedLexeme, lexemes, lexeme_of_token, IsRule}
-use Rattle.formula_reader.proofs.Vocabulary.{IsPolicyText, AreLow, HasLexemeLevels, IsWritableRule, kinds_written}
-use Rattle.formula_reader.proofs.Vocabulary.{rule_written, TextsAreWritable, WrittenHasLevels, WrittenIsRead}
-use Rattle.formula_reader.proofs.Vocabulary.{SyntaxRefusal, NameEntry, rule_text, rule_pieces, bare_refusal}
-use Rattle.formula_reader.proofs.Vocabulary.{bare_resolved, FollowsFirstPass, Rule, rule_in, rules_in, with_both}
-use Rattle.formula_reader.proofs.Vocabulary.{IsOfText, IsReadAs, text_levels, policy_refusal, rule_refusal, rule_back}
-use Rattle.formula_reader.proofs.Vocabulary.{plain_rule, PolicyRefusal, SpellsRules, IsPolicyAnswer}
+use Rattle.formula_reader.proofs.Vocabulary.{◌≡◌, ℕ, ◌<◌, zero, suc, List, [], ◌∷◌, Option, None, Some, Result, Ok, Err, map, length, slice_index_or, refl, sym, ap, subst, ◌∙◌, arith, AllByRecursion}
+use Rattle.formula_reader.proofs.Vocabulary.{option_map, option_or, PrintedIsCut, placed_from, tokens, PlacedLexeme, lexemes, lexeme_of_token, IsRule, IsPolicyText, AreLow, HasLexemeLevels}
+use Rattle.formula_reader.proofs.Vocabulary.{IsWritableRule, kinds_written, rule_written, TextsAreWritable, WrittenHasLevels, WrittenIsRead, SyntaxRefusal, NameEntry, rule_text, rule_pieces}
+use Rattle.formula_reader.proofs.Vocabulary.{bare_refusal, bare_resolved, FollowsFirstPass, Rule, rule_in, rules_in, with_both, IsOfText, IsReadAs, text_levels, policy_refusal, rule_refusal}
+use Rattle.formula_reader.proofs.Vocabulary.{rule_back, plain_rule, PolicyRefusal, SpellsRules, IsPolicyAnswer}
 use Rattle.formula_reader.proofs.OptionLaws.{both_from, or_none}
 use Rattle.formula_reader.proofs.WrittenAlike.{rule_alike, writable_plain}
 use Rattle.formula_reader.proofs.TokensApart.{rule-apart}

@@ -1,16 +1,10 @@
 -- A policy without a refusal has its rules under the signature.
-use Rattle.formula_reader.proofs.Vocabulary.{◌≡◌, ℕ, List, [], ◌∷◌, ◌++◌, length, Option, None, Some}
-use Rattle.formula_reader.proofs.Vocabulary.{Result, Ok, Err, refl, ap, slice_get, option_map, option_and_then, Term}
-use Rattle.formula_reader.proofs.Vocabulary.{VarId, SyntaxTerm, SyntaxTree, TrueTree, FalseTree, AtomTree, EqualTree}
-use Rattle.formula_reader.proofs.Vocabulary.{LessTree, AtMostTree, NotTree, AndTree, OrTree, ImpliesTree, ExistsTree}
-use Rattle.formula_reader.proofs.Vocabulary.{ForallTree, PrevTree, NextTree, OnceTree, HistoricallyTree, SinceTree}
-use Rattle.formula_reader.proofs.Vocabulary.{EventuallyTree, AlwaysTree, UntilTree, entry_columns, NameEntry, Sort}
-use Rattle.formula_reader.proofs.Vocabulary.{name_number, IsResolutionAnswer, Point, EventName, Binder, Use}
-use Rattle.formula_reader.proofs.Vocabulary.{entry_named, argument_points, binder_points, points, term_in, bound_names}
-use Rattle.formula_reader.proofs.Vocabulary.{binding_names, bound_variables_from, Rule, with_both, name_in, terms_in}
-use Rattle.formula_reader.proofs.Vocabulary.{formula_in, rule_in, rules_in, rule_with, event_name_refusal, known_after}
-use Rattle.formula_reader.proofs.Vocabulary.{point_refusal, first_point_refusal, rule_refusal, policy_refusal}
-use Rattle.formula_reader.proofs.Vocabulary.{PolicyRefusal}
+use Rattle.formula_reader.proofs.Vocabulary.{◌≡◌, ℕ, List, [], ◌∷◌, ◌++◌, length, Option, None, Some, Result, Ok, Err, refl, ap, slice_get, option_map, option_and_then, Term, VarId, SyntaxTerm}
+use Rattle.formula_reader.proofs.Vocabulary.{SyntaxTree, TrueTree, FalseTree, AtomTree, EqualTree, LessTree, AtMostTree, NotTree, AndTree, OrTree, ImpliesTree, ExistsTree, ForallTree, PrevTree}
+use Rattle.formula_reader.proofs.Vocabulary.{NextTree, OnceTree, HistoricallyTree, SinceTree, EventuallyTree, AlwaysTree, UntilTree, entry_columns, NameEntry, Sort, name_number, IsResolutionAnswer}
+use Rattle.formula_reader.proofs.Vocabulary.{Point, EventName, Binder, Use, entry_named, argument_points, binder_points, points, term_in, bound_names, binding_names, bound_variables_from, Rule}
+use Rattle.formula_reader.proofs.Vocabulary.{with_both, name_in, terms_in, formula_in, rule_in, rules_in, rule_with, event_name_refusal, known_after, point_refusal, first_point_refusal, rule_refusal}
+use Rattle.formula_reader.proofs.Vocabulary.{policy_refusal, PolicyRefusal}
 use Rattle.formula_reader.proofs.OptionLaws.{or_none}
 use Rattle.formula_reader.proofs.CallAnswers.{answers_same}
 use Rattle.enf_formula.specs.meaning.Satisfaction as tree

@@ -1,13 +1,8 @@
 -- The sorts that the reader keeps are those of the definition, and so are the refusals.
-use Rattle.formula_reader.proofs.Vocabulary.{◌≡◌, ◌≢◌, ℕ, suc, zero, ◌+◌, ◌<◌, Bool, true, false}
-use Rattle.formula_reader.proofs.Vocabulary.{cond, eqb, List, [], ◌∷◌, ◌++◌, length, get_or, Option, None}
-use Rattle.formula_reader.proofs.Vocabulary.{Some, Result, Ok, Err, refl, sym, ap, subst, ◌∙◌, ⊎_elim}
-use Rattle.formula_reader.proofs.Vocabulary.{eqb_tells, get_or-set_same, get_or-set_other, length-set, length-append}
-use Rattle.formula_reader.proofs.Vocabulary.{option_or, Term, Var, Const, VarId, NameEntry, Sort, VariableSorts}
-use Rattle.formula_reader.proofs.Vocabulary.{known_in, fill, with_sort, sorts_behind, pass, passed_on, Wanted}
-use Rattle.formula_reader.proofs.Vocabulary.{NoSortWanted, ThisSort, SortOf, Point, EventName, Binder, Use}
-use Rattle.formula_reader.proofs.Vocabulary.{sort_of_term, wanted_sort, for_variable, sort_given, known_after}
-use Rattle.formula_reader.proofs.Vocabulary.{point_refusal, first_point_refusal, sort_clash, PolicyRefusal}
+use Rattle.formula_reader.proofs.Vocabulary.{◌≡◌, ◌≢◌, ℕ, suc, zero, ◌+◌, ◌<◌, Bool, true, false, cond, eqb, List, [], ◌∷◌, ◌++◌, length, get_or, Option, None, Some, Result, Ok, Err, refl, sym, ap}
+use Rattle.formula_reader.proofs.Vocabulary.{subst, ◌∙◌, ⊎_elim, eqb_tells, get_or-set_same, get_or-set_other, length-set, length-append, option_or, Term, Var, Const, VarId, NameEntry, Sort}
+use Rattle.formula_reader.proofs.Vocabulary.{VariableSorts, known_in, fill, with_sort, sorts_behind, pass, passed_on, Wanted, NoSortWanted, ThisSort, SortOf, Point, EventName, Binder, Use}
+use Rattle.formula_reader.proofs.Vocabulary.{sort_of_term, wanted_sort, for_variable, sort_given, known_after, point_refusal, first_point_refusal, sort_clash, PolicyRefusal}
 
 option_or-none : {A : Type 0} (a : Option A) → option_or a None ≡ a
 option_or-none None = refl

@@ -1,10 +1,7 @@
 -- What both passes answer to a text.
-use Rattle.formula_reader.proofs.Vocabulary.{◌≡◌, ℕ, List, Result, Ok, Err, IfOk, IsErrAnd, refl, sym, subst}
-use Rattle.formula_reader.proofs.Vocabulary.{SyntaxRefusal, NameEntry, GivesResolutionAnswer, policy_answer_of}
-use Rattle.formula_reader.proofs.Vocabulary.{GivesPolicyAnswer, IsResolutionAnswer, FollowsFirstPass, IsPolicyAnswer}
-use Rattle.formula_reader.proofs.Vocabulary.{of_first_pass, Rule, policy_rules_of, IsWellFormedPolicy, ReadIsWellFormed}
-use Rattle.formula_reader.proofs.Vocabulary.{Policy, PolicyRefusal, Syntax, UnknownName, Arity, SortClash, FreeVariable}
-use Rattle.formula_reader.proofs.Vocabulary.{Rebound, Limit, NoMemory}
+use Rattle.formula_reader.proofs.Vocabulary.{◌≡◌, ℕ, List, Result, Ok, Err, IfOk, IsErrAnd, refl, sym, subst, SyntaxRefusal, NameEntry, GivesResolutionAnswer, policy_answer_of, GivesPolicyAnswer}
+use Rattle.formula_reader.proofs.Vocabulary.{IsResolutionAnswer, FollowsFirstPass, IsPolicyAnswer, of_first_pass, Rule, policy_rules_of, IsWellFormedPolicy, ReadIsWellFormed, Policy, PolicyRefusal}
+use Rattle.formula_reader.proofs.Vocabulary.{Syntax, UnknownName, Arity, SortClash, FreeVariable, Rebound, Limit, NoMemory}
 use Rattle.formula_reader.proofs.RulesExist.{one_answer_of}
 use Rattle.policy_syntax.specs.machine.CallAnswers as first_pass
 use Rattle.policy_syntax.specs.meaning.Refusals as refusals

@@ -1,8 +1,6 @@
 -- Fronts of a text that were appended before memory ran out.
-use Rattle.formula_reader.proofs.Vocabulary.{◌≡◌, ℕ, List, [], ◌∷◌, ◌++◌, take, drop, length, sym, ap}
-use Rattle.formula_reader.proofs.Vocabulary.{◌∙◌, subst, arith, get_or, ◌≤◌, ◌-◌, flat_map-append}
-use Rattle.formula_reader.proofs.Vocabulary.{take_all, take-append-drop, flat_map, AppendsPart, part_first, part_behind}
-use Rattle.formula_reader.proofs.Vocabulary.{separated_text}
+use Rattle.formula_reader.proofs.Vocabulary.{◌≡◌, ℕ, List, [], ◌∷◌, ◌++◌, take, drop, length, sym, ap, ◌∙◌, subst, arith, get_or, ◌≤◌, ◌-◌, flat_map-append, take_all, take-append-drop, flat_map}
+use Rattle.formula_reader.proofs.Vocabulary.{AppendsPart, part_first, part_behind, separated_text}
 
 -- the first of texts with a separator between them
 pub separated-first : {A : Type 0} (text : A → List ℕ) (separator : List ℕ) (items : List A) (d : A) → 1 ≤ length items

@@ -1,17 +1,10 @@
 -- No token of the canonical text goes on in what stands after it.
-use Rattle.formula_reader.proofs.Vocabulary.{◌≡◌, ℕ, Bool, true, false, List, [], ◌∷◌, ◌++◌, Option}
-use Rattle.formula_reader.proofs.Vocabulary.{None, Some, codes, pos, negsuc, refl, sym, ap, subst, ◌∙◌}
-use Rattle.formula_reader.proofs.Vocabulary.{append_assoc, append-nil, is_ascii_digit, flat_map, AllByRecursion, IsTrue}
-use Rattle.formula_reader.proofs.Vocabulary.{Formula, True, False, Atom, Equal, Less, AtMost, Not, And, Or, Implies}
-use Rattle.formula_reader.proofs.Vocabulary.{Exists, Forall, Prev, Next, Once, Historically, Since, Eventually, Always}
-use Rattle.formula_reader.proofs.Vocabulary.{Until, is_word, is_word_byte, NumberToken, SymbolToken, begins_with}
-use Rattle.formula_reader.proofs.Vocabulary.{printed_tokens, StopsBefore, AreApart, goes_on_with_mark, IsProper}
-use Rattle.formula_reader.proofs.Vocabulary.{Interval, Term, Var, Const, VarId, Mark as AnyMark, Num, NameEntry}
-use Rattle.formula_reader.proofs.Vocabulary.{variable_text, Rule, formula_stands_alone, PrintedPiece, word_piece}
-use Rattle.formula_reader.proofs.Vocabulary.{mark_piece, blank_piece, term_piece, separated_pieces, end_piece}
-use Rattle.formula_reader.proofs.Vocabulary.{interval_pieces, enclosed_pieces, comparison_pieces, prefix_pieces}
-use Rattle.formula_reader.proofs.Vocabulary.{infix_pieces, quantified_pieces, formula_pieces, rule_pieces, IsTermText}
-use Rattle.formula_reader.proofs.Vocabulary.{IsEndText, IsIntervalText, IsFormulaText, IsRuleText}
+use Rattle.formula_reader.proofs.Vocabulary.{◌≡◌, ℕ, Bool, true, false, List, [], ◌∷◌, ◌++◌, Option, None, Some, codes, pos, negsuc, refl, sym, ap, subst, ◌∙◌, append_assoc, append-nil}
+use Rattle.formula_reader.proofs.Vocabulary.{is_ascii_digit, flat_map, AllByRecursion, IsTrue, Formula, True, False, Atom, Equal, Less, AtMost, Not, And, Or, Implies, Exists, Forall, Prev, Next, Once}
+use Rattle.formula_reader.proofs.Vocabulary.{Historically, Since, Eventually, Always, Until, is_word, is_word_byte, NumberToken, SymbolToken, begins_with, printed_tokens, StopsBefore, AreApart}
+use Rattle.formula_reader.proofs.Vocabulary.{goes_on_with_mark, IsProper, Interval, Term, Var, Const, VarId, Mark as AnyMark, Num, NameEntry, variable_text, Rule, formula_stands_alone, PrintedPiece}
+use Rattle.formula_reader.proofs.Vocabulary.{word_piece, mark_piece, blank_piece, term_piece, separated_pieces, end_piece, interval_pieces, enclosed_pieces, comparison_pieces, prefix_pieces}
+use Rattle.formula_reader.proofs.Vocabulary.{infix_pieces, quantified_pieces, formula_pieces, rule_pieces, IsTermText, IsEndText, IsIntervalText, IsFormulaText, IsRuleText}
 use Rattle.enf_data.specs.declared.values.Value.TheVariants.{Text}
 use Rattle.formula_reader.proofs.PrintedPieces.{printed-append}
 use Rattle.enf_value.specs.declared.tokens.Mark.TheVariants as marks

@@ -1,28 +1,17 @@
 -- The rules of a text are well formed.
-use Rattle.formula_reader.proofs.Vocabulary.{◌≡◌, ◌==◌, ℕ, ◌+◌, ◌≤◌, suc, Bool, true, false}
-use Rattle.formula_reader.proofs.Vocabulary.{true≢false, cond, ◌||◌, ◌&&◌, not, List, [], ◌∷◌, ◌++◌}
-use Rattle.formula_reader.proofs.Vocabulary.{length, map, Option, None, Some, Ok, refl, sym, ap, subst, ◌∙◌}
-use Rattle.formula_reader.proofs.Vocabulary.{arith, slice_get, nat_tests, length-append, length-map, bytes_eq-Decides}
-use Rattle.formula_reader.proofs.Vocabulary.{AllByRecursion, list_any, option_and_then, option_map, bytes_eq}
-use Rattle.formula_reader.proofs.Vocabulary.{bound_variables, numbered_variables, IsScopedFormula, scoped_closed}
-use Rattle.formula_reader.proofs.Vocabulary.{scoped_fresh, AreNewVariables, IsTermInScope, formula_size, HasNoRepeats}
-use Rattle.formula_reader.proofs.Vocabulary.{is_reserved, reserved, NameId, Term, VarId, PolicyLexeme, NameLexeme}
-use Rattle.formula_reader.proofs.Vocabulary.{lexeme_of_word, KeepsLimits, IsRule, IsShortName, tree_size, SyntaxTree}
-use Rattle.formula_reader.proofs.Vocabulary.{TrueTree, FalseTree, AtomTree, EqualTree, LessTree, AtMostTree, NotTree}
-use Rattle.formula_reader.proofs.Vocabulary.{AndTree, OrTree, ImpliesTree, ExistsTree, ForallTree, PrevTree, NextTree}
-use Rattle.formula_reader.proofs.Vocabulary.{OnceTree, HistoricallyTree, SinceTree, EventuallyTree, AlwaysTree}
-use Rattle.formula_reader.proofs.Vocabulary.{UntilTree, IsPolicyText, IsWritable, IsWritableName, IsWritableRule}
-use Rattle.formula_reader.proofs.Vocabulary.{TextsAreWritable, MOST_VARIABLES, Binding, SyntaxTerm, NameEntry}
-use Rattle.formula_reader.proofs.Vocabulary.{name_number, bound_names, binding_names, term_in, bound_variables_from}
-use Rattle.formula_reader.proofs.Vocabulary.{Rule, formula_in, name_in, rule_in, rule_with, rules_in, terms_in}
-use Rattle.formula_reader.proofs.Vocabulary.{with_both, binder_points, entry_named, points, IsPolicyAnswer}
-use Rattle.formula_reader.proofs.Vocabulary.{event_name_refusal, policy_refusal, rule_refusal, Arity, IsName}
-use Rattle.formula_reader.proofs.Vocabulary.{IsPolicyFormula, IsWellFormedPolicy, IsWellFormedRule, arity_of}
+use Rattle.formula_reader.proofs.Vocabulary.{◌≡◌, ◌==◌, ℕ, ◌+◌, ◌≤◌, suc, Bool, true, false, true≢false, cond, ◌||◌, ◌&&◌, not, List, [], ◌∷◌, ◌++◌, length, map, Option, None, Some, Ok, refl, sym, ap}
+use Rattle.formula_reader.proofs.Vocabulary.{subst, ◌∙◌, arith, slice_get, nat_tests, length-append, length-map, bytes_eq-Decides, AllByRecursion, list_any, option_and_then, option_map, bytes_eq}
+use Rattle.formula_reader.proofs.Vocabulary.{bound_variables, numbered_variables, IsScopedFormula, scoped_closed, scoped_fresh, AreNewVariables, IsTermInScope, formula_size, HasNoRepeats, is_reserved}
+use Rattle.formula_reader.proofs.Vocabulary.{reserved, NameId, Term, VarId, PolicyLexeme, NameLexeme, lexeme_of_word, KeepsLimits, IsRule, IsShortName, tree_size, SyntaxTree, TrueTree, FalseTree}
+use Rattle.formula_reader.proofs.Vocabulary.{AtomTree, EqualTree, LessTree, AtMostTree, NotTree, AndTree, OrTree, ImpliesTree, ExistsTree, ForallTree, PrevTree, NextTree, OnceTree, HistoricallyTree}
+use Rattle.formula_reader.proofs.Vocabulary.{SinceTree, EventuallyTree, AlwaysTree, UntilTree, IsPolicyText, IsWritable, IsWritableName, IsWritableRule, TextsAreWritable, MOST_VARIABLES, Binding}
+use Rattle.formula_reader.proofs.Vocabulary.{SyntaxTerm, NameEntry, name_number, bound_names, binding_names, term_in, bound_variables_from, Rule, formula_in, name_in, rule_in, rule_with, rules_in}
+use Rattle.formula_reader.proofs.Vocabulary.{terms_in, with_both, binder_points, entry_named, points, IsPolicyAnswer, event_name_refusal, policy_refusal, rule_refusal, Arity, IsName, IsPolicyFormula}
+use Rattle.formula_reader.proofs.Vocabulary.{IsWellFormedPolicy, IsWellFormedRule, arity_of}
 use Rattle.formula_reader.proofs.OptionLaws.{both_from, one_from, or_none}
 use Rattle.formula_reader.proofs.RulesExist.{AreKnown, known_back, known_front, points_known}
 use Rattle.formula_reader.proofs.RoundTrip.{policy_of, text_of}
-use Rattle.formula_reader.proofs.FreshVariables.{IsScope, bound_in_turn, count_numbered, no_scope, numbered_on}
-use Rattle.formula_reader.proofs.FreshVariables.{scope_later, scope_on, term_in_scope, terms_in_scope}
+use Rattle.formula_reader.proofs.FreshVariables.{IsScope, bound_in_turn, count_numbered, no_scope, numbered_on, scope_later, scope_on, term_in_scope, terms_in_scope}
 use Rattle.enf_formula.specs.meaning.Satisfaction as tree
 use Rattle.policy_syntax.specs.meaning.Trees as syntax
 

@@ -1,15 +1,9 @@
 -- Trees but for the places of variables and terms are written alike.
-use Rattle.formula_reader.proofs.Vocabulary.{◌≡◌, ◌≢◌, ℕ, ◌+◌, List, [], ◌∷◌, map, refl}
-use Rattle.formula_reader.proofs.Vocabulary.{◌∙◌, AllByRecursion, PolicyLexeme, Symbol, Prefix, Infix, Quantifier}
-use Rattle.formula_reader.proofs.Vocabulary.{Sign, NameLexeme, bare_binding, bare_term, SyntaxTree, PolicyRule}
-use Rattle.formula_reader.proofs.Vocabulary.{TrueTree, FalseTree, AtomTree, EqualTree, LessTree, AtMostTree, NotTree}
-use Rattle.formula_reader.proofs.Vocabulary.{AndTree, OrTree, ImpliesTree, ExistsTree, ForallTree, PrevTree, NextTree}
-use Rattle.formula_reader.proofs.Vocabulary.{OnceTree, HistoricallyTree, SinceTree, EventuallyTree, AlwaysTree}
-use Rattle.formula_reader.proofs.Vocabulary.{UntilTree, AreWritableVariables, IsWritable, IsWritableName}
-use Rattle.formula_reader.proofs.Vocabulary.{IsWritableTerm, Leveled, enclosed_lexemes, formula_written}
-use Rattle.formula_reader.proofs.Vocabulary.{interval_written, list_written, rule_written, tree_stands_alone}
-use Rattle.formula_reader.proofs.Vocabulary.{term_written, variable_written, Binding, SyntaxTerm, Variable, Constant}
-use Rattle.formula_reader.proofs.Vocabulary.{plain_tree, plain_rule}
+use Rattle.formula_reader.proofs.Vocabulary.{◌≡◌, ◌≢◌, ℕ, ◌+◌, List, [], ◌∷◌, map, refl, ◌∙◌, AllByRecursion, PolicyLexeme, Symbol, Prefix, Infix, Quantifier, Sign, NameLexeme, bare_binding}
+use Rattle.formula_reader.proofs.Vocabulary.{bare_term, SyntaxTree, PolicyRule, TrueTree, FalseTree, AtomTree, EqualTree, LessTree, AtMostTree, NotTree, AndTree, OrTree, ImpliesTree, ExistsTree}
+use Rattle.formula_reader.proofs.Vocabulary.{ForallTree, PrevTree, NextTree, OnceTree, HistoricallyTree, SinceTree, EventuallyTree, AlwaysTree, UntilTree, AreWritableVariables, IsWritable}
+use Rattle.formula_reader.proofs.Vocabulary.{IsWritableName, IsWritableTerm, Leveled, enclosed_lexemes, formula_written, interval_written, list_written, rule_written, tree_stands_alone, term_written}
+use Rattle.formula_reader.proofs.Vocabulary.{variable_written, Binding, SyntaxTerm, Variable, Constant, plain_tree, plain_rule}
 use Rattle.policy_syntax.specs.declared.lexemes.Infix.TheVariants as infix_words
 use Rattle.policy_syntax.specs.declared.lexemes.Prefix.TheVariants as prefix_words
 use Rattle.policy_syntax.specs.declared.lexemes.Quantifier.TheVariants as quantifier_words

@@ -1,17 +1,10 @@
 -- What the second pass gives, written back, is the syntax tree that it came from, but for the places of variables and terms.
-use Rattle.formula_reader.proofs.Vocabulary.{◌≡◌, ℕ, zero, suc, ◌+◌, Bool, true, false, cond, List, []}
-use Rattle.formula_reader.proofs.Vocabulary.{◌∷◌, ◌++◌, length, map, Option, None, Some, refl, sym, ap, subst}
-use Rattle.formula_reader.proofs.Vocabulary.{◌∙◌, append_assoc, slice_get, append-nil, length-append}
-use Rattle.formula_reader.proofs.Vocabulary.{bytes_eq-Decides, option_map, unwrap_or, bytes_eq, NameId, Term, Var}
-use Rattle.formula_reader.proofs.Vocabulary.{Const, VarId, Binding, SyntaxTerm, Variable, Constant, SyntaxTree}
-use Rattle.formula_reader.proofs.Vocabulary.{TrueTree, FalseTree, AtomTree, EqualTree, LessTree, AtMostTree, NotTree}
-use Rattle.formula_reader.proofs.Vocabulary.{AndTree, OrTree, ImpliesTree, ExistsTree, ForallTree, PrevTree, NextTree}
-use Rattle.formula_reader.proofs.Vocabulary.{OnceTree, HistoricallyTree, SinceTree, EventuallyTree, AlwaysTree}
-use Rattle.formula_reader.proofs.Vocabulary.{UntilTree, NameEntry, name_number, name_at, position-cons, name_text}
-use Rattle.formula_reader.proofs.Vocabulary.{is_named, variable_named, term_in, bound_names, binding_names}
-use Rattle.formula_reader.proofs.Vocabulary.{bound_variables_from, Rule, with_both, name_in, terms_in, formula_in}
-use Rattle.formula_reader.proofs.Vocabulary.{rule_in, rule_with, term_back, binding_back, formula_back, plain_tree}
-use Rattle.formula_reader.proofs.Vocabulary.{rule_back, plain_rule, bare_binding, bare_term}
+use Rattle.formula_reader.proofs.Vocabulary.{◌≡◌, ℕ, zero, suc, ◌+◌, Bool, true, false, cond, List, [], ◌∷◌, ◌++◌, length, map, Option, None, Some, refl, sym, ap, subst, ◌∙◌, append_assoc, slice_get}
+use Rattle.formula_reader.proofs.Vocabulary.{append-nil, length-append, bytes_eq-Decides, option_map, unwrap_or, bytes_eq, NameId, Term, Var, Const, VarId, Binding, SyntaxTerm, Variable, Constant}
+use Rattle.formula_reader.proofs.Vocabulary.{SyntaxTree, TrueTree, FalseTree, AtomTree, EqualTree, LessTree, AtMostTree, NotTree, AndTree, OrTree, ImpliesTree, ExistsTree, ForallTree, PrevTree}
+use Rattle.formula_reader.proofs.Vocabulary.{NextTree, OnceTree, HistoricallyTree, SinceTree, EventuallyTree, AlwaysTree, UntilTree, NameEntry, name_number, name_at, position-cons, name_text}
+use Rattle.formula_reader.proofs.Vocabulary.{is_named, variable_named, term_in, bound_names, binding_names, bound_variables_from, Rule, with_both, name_in, terms_in, formula_in, rule_in, rule_with}
+use Rattle.formula_reader.proofs.Vocabulary.{term_back, binding_back, formula_back, plain_tree, rule_back, plain_rule, bare_binding, bare_term}
 use Rattle.formula_reader.proofs.OptionLaws.{both_from, one_from}
 use Rattle.enf_formula.specs.meaning.Satisfaction as tree
 use Rattle.policy_syntax.specs.meaning.Trees as syntax

@@ -1,6 +1,5 @@
 -- Events that are put one after another.
-use Rattle.std.proofs.Common.{◌≡◌, ℕ, Bool, true, false, List, [], ◌∷◌, ◌++◌, refl, sym, ap}
-use Rattle.std.proofs.Common.{◌∙◌, cond, ◌+◌, ◌*◌, add-one}
+use Rattle.std.proofs.Common.{◌≡◌, ℕ, Bool, true, false, List, [], ◌∷◌, ◌++◌, refl, sym, ap, ◌∙◌, cond, ◌+◌, ◌*◌, add-one}
 use Rattle.std.proofs.lemmas.Bool.{false_from_ne_true}
 use Rattle.enf_data.specs.meaning.Values.{has_event}
 use Rattle.enf_data.proofs.ValueEquality.{has_event-Decides}

@@ -1,7 +1,6 @@
 -- The sample policy is read under the sample signature.
 use Rattle.std.proofs.Common.{List, [], ◌∷◌, None, Some, Ok, codes, refl, lit≤}
-use Rattle.policy_syntax.specs.meaning.Phrases.{Before, Between, Event, Implication, LastTerm, LastVariable, Negation}
-use Rattle.policy_syntax.specs.meaning.Phrases.{OneCase, OneOperand, OnePart, OneSide, Parenthesis, Primary, Quantified}
+use Rattle.policy_syntax.specs.meaning.Phrases.{Before, Between, Event, Implication, LastTerm, LastVariable, Negation, OneCase, OneOperand, OnePart, OneSide, Parenthesis, Primary, Quantified}
 use Rattle.policy_syntax.specs.meaning.Phrases.{RulePhrase, Variable}
 use Rattle.policy_syntax.specs.meaning.Grammar.{PolicyFits, policy_tree, IsPolicyText}
 use Rattle.policy_syntax.specs.meaning.Trees.{IsPolicy}

@@ -1,6 +1,5 @@
 -- Laws of generated steps: how many draws they make, how far their times go, and what one step more adds.
-use Rattle.std.proofs.Common.{ℕ, zero, suc, ◌*◌, ◌≤◌, arith, ◌≡◌, ◌+◌, [], ◌∷◌, ◌++◌}
-use Rattle.std.proofs.Common.{ap, ◌∙◌, add-one}
+use Rattle.std.proofs.Common.{ℕ, zero, suc, ◌*◌, ◌≤◌, arith, ◌≡◌, ◌+◌, [], ◌∷◌, ◌++◌, ap, ◌∙◌, add-one}
 use Rattle.std.proofs.lemmas.List.{map-append}
 use Rattle.trace_meaning.specs.meaning.Traces.{StepRecord}
 use Rattle.log_gen.specs.meaning.GeneratedLogs.{first_draw, time_before, generated, generated_records, generated_step}

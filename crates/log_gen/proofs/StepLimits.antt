@@ -1,7 +1,6 @@
 -- Generated steps are within the limits of what is read.
-use Rattle.std.proofs.Common.{◌≡◌, ℕ, zero, suc, ◌+◌, ◌*◌, ◌^◌, ◌%◌, ◌<◌, ◌≤◌, nat_eq}
-use Rattle.std.proofs.Common.{nat_le, nat_lt, lit<, Bool, true, false, ◌&&◌, cond, List, [], ◌∷◌, ◌++◌}
-use Rattle.std.proofs.Common.{length, refl, sym, ap, ◌∙◌, subst, arith, Option, None, Some, ⊎_elim}
+use Rattle.std.proofs.Common.{◌≡◌, ℕ, zero, suc, ◌+◌, ◌*◌, ◌^◌, ◌%◌, ◌<◌, ◌≤◌, nat_eq, nat_le, nat_lt, lit<, Bool, true, false, ◌&&◌, cond, List, [], ◌∷◌, ◌++◌, length, refl, sym, ap, ◌∙◌, subst}
+use Rattle.std.proofs.Common.{arith, Option, None, Some, ⊎_elim}
 use Rattle.std.specs.Prelude.{Contains, codes, decimal, slice_get, slice_index_or, unwrap_or}
 use Rattle.std.specs.List.{AllByRecursion, flat_map}
 use Rattle.std.specs.Str.{IsAscii}
@@ -9,8 +8,7 @@ use Rattle.std.specs.Fmt.{digits}
 use Rattle.std.proofs.lemmas.Bool.{true≢false, and_parts as both}
 use Rattle.std.proofs.lemmas.Bool.Decides.{nat_tests}
 use Rattle.std.proofs.lemmas.List.{append-nil, length-append}
-use Rattle.std.proofs.lemmas.List.Elements.{Contains-append_left, Contains-append_right, Contains-push}
-use Rattle.std.proofs.lemmas.List.Elements.{Contains-push_cases}
+use Rattle.std.proofs.lemmas.List.Elements.{Contains-append_left, Contains-append_right, Contains-push, Contains-push_cases}
 use Rattle.std.proofs.lemmas.Fmt.{length-decimal-le}
 use Rattle.std.proofs.lemmas.Str.{IsUtf8-from_ascii}
 use Rattle.enf_data.specs.meaning.Values.{has_event}
@@ -27,8 +25,7 @@ use Rattle.trace_meaning.specs.declared.kinds.StepKind.TheVariants.{System}
 use Rattle.enf_data.specs.declared.steps.Step.{Step}
 use Rattle.log_stream.specs.machine.StepLimits.{FitColumns, IsDeclared, IsWithinLimits}
 use Rattle.log_gen.proofs.StepLaws.{early}
-use Rattle.log_gen.specs.meaning.GeneratedLogs.{draw, drawn_event, drawn_events, drawn_names, drawn_number, event_count}
-use Rattle.log_gen.specs.meaning.GeneratedLogs.{first_draw, generated, generated_step}
+use Rattle.log_gen.specs.meaning.GeneratedLogs.{draw, drawn_event, drawn_events, drawn_names, drawn_number, event_count, first_draw, generated, generated_step}
 use Rattle.log_gen.specs.meaning.Samples.{sample_entries}
 use Rattle.enf_data.specs.declared.values.Value.TheVariants as values
 use Rattle.signature.specs.declared.entries.Sort.TheVariants as sorts

@@ -1,7 +1,6 @@
 -- What a caller needs of a text that is made line by line: what one line more adds, and that it is a front of the
 -- whole.
-use Rattle.std.proofs.Common.{◌≡◌, ℕ, suc, ◌+◌, ◌-◌, [], ◌∷◌, ◌++◌, ap, ◌∙◌, add-one}
-use Rattle.std.proofs.Common.{zero, List, sym, arith, append_assoc, ◌≤◌}
+use Rattle.std.proofs.Common.{◌≡◌, ℕ, suc, ◌+◌, ◌-◌, [], ◌∷◌, ◌++◌, ap, ◌∙◌, add-one, zero, List, sym, arith, append_assoc, ◌≤◌}
 use Rattle.std.proofs.lemmas.List.{append-nil}
 use Rattle.std.proofs.lemmas.List.Concat.{flat_map-append}
 use Rattle.log_gen.specs.machine.Generators.{generated_line}

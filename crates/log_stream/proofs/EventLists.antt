@@ -1,6 +1,5 @@
 -- The events that are read after a time.
-use Rattle.log_stream.proofs.Vocabulary.{Event, flat_map, NameEntry, LogRefusal, MOST_EVENTS, JudgesEvents, LogMark}
-use Rattle.log_stream.proofs.Vocabulary.{LogTokensLead, WrittenEvent, event_tokens}
+use Rattle.log_stream.proofs.Vocabulary.{Event, flat_map, NameEntry, LogRefusal, MOST_EVENTS, JudgesEvents, LogMark, LogTokensLead, WrittenEvent, event_tokens}
 use Rattle.std.specs.Prelude.{ℕ, ◌+◌, ◌≤◌, List, [], ◌∷◌, ◌++◌, length, Result}
 
 -- the events that are read after a time, up to the semicolon

@@ -1,13 +1,9 @@
 -- A step or a tick at the front of bytes, read where it stands.
-use Rattle.log_stream.proofs.Vocabulary.{◌≡◌, ℕ, ◌+◌, ◌<◌, ◌≤◌, List, [], ◌∷◌, length, take}
-use Rattle.log_stream.proofs.Vocabulary.{Some, Result, Ok, Err, subst, sym, ◌∙◌, refl, arith, length-take}
-use Rattle.log_stream.proofs.Vocabulary.{flat_map, take_all, same_Some, InsertsEach, Event, NameEntry, most_time}
-use Rattle.log_stream.proofs.Vocabulary.{StepKind, System, Inserted, LogMode, LogRefusal, TimeTooLarge, Outside}
-use Rattle.log_stream.proofs.Vocabulary.{length_to_end, LogMark, LogTime, IsLogTokenAt, LogTokensLead, ModeReads}
-use Rattle.log_stream.proofs.Vocabulary.{event_tokens, mark_of, ReadsFront, ReadsUpTo}
+use Rattle.log_stream.proofs.Vocabulary.{◌≡◌, ℕ, ◌+◌, ◌<◌, ◌≤◌, List, [], ◌∷◌, length, take, Some, Result, Ok, Err, subst, sym, ◌∙◌, refl, arith, length-take, flat_map, take_all, same_Some}
+use Rattle.log_stream.proofs.Vocabulary.{InsertsEach, Event, NameEntry, most_time, StepKind, System, Inserted, LogMode, LogRefusal, TimeTooLarge, Outside, length_to_end, LogMark, LogTime}
+use Rattle.log_stream.proofs.Vocabulary.{IsLogTokenAt, LogTokensLead, ModeReads, event_tokens, mark_of, ReadsFront, ReadsUpTo}
 use Rattle.log_stream.proofs.EventLists.{ReadsEvents}
-use Rattle.log_stream.proofs.RecordsInPlace.{IsPassed, IsQuiet, events_quiet, first_end, leads_cut, leads_end}
-use Rattle.log_stream.proofs.RecordsInPlace.{leads_onward, leads_passed, passed_on}
+use Rattle.log_stream.proofs.RecordsInPlace.{IsPassed, IsQuiet, events_quiet, first_end, leads_cut, leads_end, leads_onward, leads_passed, passed_on}
 use Rattle.log_stream.proofs.WholeItems.{step_read, step_refused, step_too_late, tick_read, tick_too_late}
 use Rattle.log_stream.specs.declared.items.LogItem.TheVariants as items
 

@@ -1,13 +1,8 @@
 -- What a caller needs of a log that comes in pieces: what is read of it so far, as each piece and each record comes.
-use Rattle.log_stream.proofs.Vocabulary.{ℕ, List, [], refl, ◌+◌, ◌∷◌, ◌++◌, ◌≡◌, Bool, true}
-use Rattle.log_stream.proofs.Vocabulary.{false, if◌then◌else◌, ◌<◌, length, arith, ◌≤◌, ◌==◌}
-use Rattle.log_stream.proofs.Vocabulary.{◌&&◌, suc, zero, take, Option, None, Some, ap, ◌∙◌, drop, Ok, sym}
-use Rattle.log_stream.proofs.Vocabulary.{subst, Err, length-append, length-drop, take-append-le, drop-append-le}
-use Rattle.log_stream.proofs.Vocabulary.{option_map, is_blank, NameEntry, LogItem, LogMode, LogRefusal, BadRecord}
-use Rattle.log_stream.proofs.Vocabulary.{UnknownName, Arity, SortClash, TooLong, TimeTooLarge, Truncated, NoMemory}
-use Rattle.log_stream.proofs.Vocabulary.{MOST_RECORD_BYTES, Scan, Outside, SpellsRecords, behind_blanks, is_outside}
-use Rattle.log_stream.proofs.Vocabulary.{length_to_end, scan_behind, HasRecord, record_length, BeginsWithRecord}
-use Rattle.log_stream.proofs.Vocabulary.{RefusesFront, IsPending, IsRecordAnswer}
+use Rattle.log_stream.proofs.Vocabulary.{ℕ, List, [], refl, ◌+◌, ◌∷◌, ◌++◌, ◌≡◌, Bool, true, false, if◌then◌else◌, ◌<◌, length, arith, ◌≤◌, ◌==◌, ◌&&◌, suc, zero, take, Option, None, Some, ap, ◌∙◌}
+use Rattle.log_stream.proofs.Vocabulary.{drop, Ok, sym, subst, Err, length-append, length-drop, take-append-le, drop-append-le, option_map, is_blank, NameEntry, LogItem, LogMode, LogRefusal}
+use Rattle.log_stream.proofs.Vocabulary.{BadRecord, UnknownName, Arity, SortClash, TooLong, TimeTooLarge, Truncated, NoMemory, MOST_RECORD_BYTES, Scan, Outside, SpellsRecords, behind_blanks}
+use Rattle.log_stream.proofs.Vocabulary.{is_outside, length_to_end, scan_behind, HasRecord, record_length, BeginsWithRecord, RefusesFront, IsPending, IsRecordAnswer}
 
 -- nothing was read of what was fed
 pub SpellsRecords-none : (entries : List NameEntry) (mode : LogMode) (text : List ℕ)

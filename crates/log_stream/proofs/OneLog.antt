@@ -1,11 +1,8 @@
 -- A log has one list of whole records, and one refusal at most.
-use Rattle.log_stream.proofs.Vocabulary.{◌≡◌, ◌⊎◌, inl, inr, ℕ, ◌<◌, ◌≤◌, List, [], ◌∷◌}
-use Rattle.log_stream.proofs.Vocabulary.{length, take, Option, None, Some, Result, Ok, Err, refl, sym, ap, subst}
-use Rattle.log_stream.proofs.Vocabulary.{◌∙◌, arith, same_Some, OneTokenAtPlace, NameEntry, LogItem, LogMode}
-use Rattle.log_stream.proofs.Vocabulary.{LogRefusal, BadRecord, UnknownName, Arity, SortClash, TooLong, TimeTooLarge}
-use Rattle.log_stream.proofs.Vocabulary.{Truncated, NoMemory, IsRecordAnswer, BeginsWithRecord, EndsBy, HasRecord}
-use Rattle.log_stream.proofs.Vocabulary.{IsLog, IsPending, RefusesFront, SpellsRecords, behind_blanks, behind_record}
-use Rattle.log_stream.proofs.Vocabulary.{record_bytes, record_length, AreWholeRecords, IsStuck, MOST_RECORD_BYTES}
+use Rattle.log_stream.proofs.Vocabulary.{◌≡◌, ◌⊎◌, inl, inr, ℕ, ◌<◌, ◌≤◌, List, [], ◌∷◌, length, take, Option, None, Some, Result, Ok, Err, refl, sym, ap, subst, ◌∙◌, arith, same_Some}
+use Rattle.log_stream.proofs.Vocabulary.{OneTokenAtPlace, NameEntry, LogItem, LogMode, LogRefusal, BadRecord, UnknownName, Arity, SortClash, TooLong, TimeTooLarge, Truncated, NoMemory, IsRecordAnswer}
+use Rattle.log_stream.proofs.Vocabulary.{BeginsWithRecord, EndsBy, HasRecord, IsLog, IsPending, RefusesFront, SpellsRecords, behind_blanks, behind_record, record_bytes, record_length, AreWholeRecords}
+use Rattle.log_stream.proofs.Vocabulary.{IsStuck, MOST_RECORD_BYTES}
 use Rattle.log_stream.proofs.OneReading.{one_answer}
 
 one_length : (text : List ℕ) (m n : ℕ) → HasRecord text m → HasRecord text n → m ≡ n

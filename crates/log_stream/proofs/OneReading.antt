@@ -1,18 +1,10 @@
 -- The bytes of a record have one answer at most.
-use Rattle.log_stream.proofs.Vocabulary.{◌≡◌, ◌⊎◌, inl, inr, ℕ, ◌+◌, ◌<◌, ◌≤◌, ◌==◌}
-use Rattle.log_stream.proofs.Vocabulary.{pos, Bool, true, false, List, [], ◌∷◌, ◌++◌, length, take_while}
-use Rattle.log_stream.proofs.Vocabulary.{drop, slice_index, Option, None, Some, Result, Ok, Err, IsTrue}
-use Rattle.log_stream.proofs.Vocabulary.{if◌then◌else◌, refl, sym, ap, subst, ◌∙◌, arith, append_assoc}
-use Rattle.log_stream.proofs.Vocabulary.{add-zero, true≢false, ⊎_elim, option_and_then, eqb-true, cases_lt}
-use Rattle.log_stream.proofs.Vocabulary.{append-nil, get_or-drop, take_while-cons, same_Some, is_word, is_word_byte}
-use Rattle.log_stream.proofs.Vocabulary.{OneTokenAtPlace, Value, Num, Text, NameEntry, StepKind, LogItem, LogMode}
-use Rattle.log_stream.proofs.Vocabulary.{LogRefusal, BadRecord, UnknownName, Arity, SortClash, TooLong, TimeTooLarge}
-use Rattle.log_stream.proofs.Vocabulary.{Truncated, NoMemory, IsRecordAnswer, judged_record, LogToken, LogMark, LogTime}
-use Rattle.log_stream.proofs.Vocabulary.{LogName, LogArgument, IsLogGap, IsLogTokenAt, LogTokensLead, WrittenEvent}
-use Rattle.log_stream.proofs.Vocabulary.{WrittenRecord, Line, CanBeginRecord, IsBadRecord, IsRecordForm}
-use Rattle.log_stream.proofs.Vocabulary.{IsRecordSpelled, record_tokens, RecordState, RecordStart, RecordMarked}
-use Rattle.log_stream.proofs.Vocabulary.{Ticking, Ticked, Events, Named, Opened, Valued, Comma, Done, event_at}
-use Rattle.log_stream.proofs.Vocabulary.{record_next, record_run}
+use Rattle.log_stream.proofs.Vocabulary.{◌≡◌, ◌⊎◌, inl, inr, ℕ, ◌+◌, ◌<◌, ◌≤◌, ◌==◌, pos, Bool, true, false, List, [], ◌∷◌, ◌++◌, length, take_while, drop, slice_index, Option, None, Some, Result, Ok}
+use Rattle.log_stream.proofs.Vocabulary.{Err, IsTrue, if◌then◌else◌, refl, sym, ap, subst, ◌∙◌, arith, append_assoc, add-zero, true≢false, ⊎_elim, option_and_then, eqb-true, cases_lt, append-nil}
+use Rattle.log_stream.proofs.Vocabulary.{get_or-drop, take_while-cons, same_Some, is_word, is_word_byte, OneTokenAtPlace, Value, Num, Text, NameEntry, StepKind, LogItem, LogMode, LogRefusal}
+use Rattle.log_stream.proofs.Vocabulary.{BadRecord, UnknownName, Arity, SortClash, TooLong, TimeTooLarge, Truncated, NoMemory, IsRecordAnswer, judged_record, LogToken, LogMark, LogTime, LogName}
+use Rattle.log_stream.proofs.Vocabulary.{LogArgument, IsLogGap, IsLogTokenAt, LogTokensLead, WrittenEvent, WrittenRecord, Line, CanBeginRecord, IsBadRecord, IsRecordForm, IsRecordSpelled}
+use Rattle.log_stream.proofs.Vocabulary.{record_tokens, RecordState, RecordStart, RecordMarked, Ticking, Ticked, Events, Named, Opened, Valued, Comma, Done, event_at, record_next, record_run}
 use Rattle.log_stream.proofs.StateFronts.{begins_runs, chosen_some, run_onto, run_tokens}
 use Rattle.log_stream.proofs.TokensByFirstByte.{BeginsValue, value_first}
 

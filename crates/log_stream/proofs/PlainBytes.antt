@@ -1,11 +1,7 @@
 -- Bytes over which a scan for a record's end stays outside of texts.
-use Rattle.log_stream.proofs.Vocabulary.{◌≡◌, ◌≢◌, ℕ, pos, negsuc, ◌+◌, ◌^◌, ◌<◌, ◌==◌}
-use Rattle.log_stream.proofs.Vocabulary.{◌&&◌, suc, Bool, true, false, List, [], ◌∷◌, ◌++◌, length, None}
-use Rattle.log_stream.proofs.Vocabulary.{Some, IsTrue, if◌then◌else◌, refl, ap, ◌∙◌, arith, decimal}
-use Rattle.log_stream.proofs.Vocabulary.{digit_value, flat_map, list_all, option_map, AllDigits, nat_tests}
-use Rattle.log_stream.proofs.Vocabulary.{decimal_is_IsNumeral, and_parts as both, is_word, is_word_byte, is_word_start}
-use Rattle.log_stream.proofs.Vocabulary.{escaped, quoted, spelled, IsValue, Value, Num, Text, false_from_ne}
-use Rattle.log_stream.proofs.Vocabulary.{start_is_byte, is_outside, length_to_end, scan_behind, scan_after, Scan}
+use Rattle.log_stream.proofs.Vocabulary.{◌≡◌, ◌≢◌, ℕ, pos, negsuc, ◌+◌, ◌^◌, ◌<◌, ◌==◌, ◌&&◌, suc, Bool, true, false, List, [], ◌∷◌, ◌++◌, length, None, Some, IsTrue, if◌then◌else◌, refl, ap, ◌∙◌}
+use Rattle.log_stream.proofs.Vocabulary.{arith, decimal, digit_value, flat_map, list_all, option_map, AllDigits, nat_tests, decimal_is_IsNumeral, and_parts as both, is_word, is_word_byte}
+use Rattle.log_stream.proofs.Vocabulary.{is_word_start, escaped, quoted, spelled, IsValue, Value, Num, Text, false_from_ne, start_is_byte, is_outside, length_to_end, scan_behind, scan_after, Scan}
 use Rattle.log_stream.proofs.Vocabulary.{Outside, Inside, Escaped}
 use Rattle.log_stream.proofs.RestFronts.{after_onward, end_onward}
 

@@ -1,14 +1,9 @@
 -- The tokens of a step's line, each at its place.
-use Rattle.log_stream.proofs.Vocabulary.{◌≡◌, ℕ, ◌+◌, ◌<◌, ◌≤◌, ◌&&◌, Bool, true, false, List}
-use Rattle.log_stream.proofs.Vocabulary.{[], ◌∷◌, ◌++◌, length, take_while, drop, slice_index, slice_index_or}
-use Rattle.log_stream.proofs.Vocabulary.{IsTrue, if◌then◌else◌, inl, inr, ◌⊎◌, refl, sym, ap, subst}
-use Rattle.log_stream.proofs.Vocabulary.{◌∙◌, arith, append_assoc, length-append, length-drop, add-zero, flat_map}
-use Rattle.log_stream.proofs.Vocabulary.{list_all, cases_lt, nat_tests, drop-drop, drop_all, drop_at, get_or-drop}
-use Rattle.log_stream.proofs.Vocabulary.{take_while-cons, is_word, is_word_byte, is_word_start, spelled, EndsBefore}
-use Rattle.log_stream.proofs.Vocabulary.{ValueTokenAt, is_blank, IsValue, PrintedIsToken, Event, Value, Num, Text}
-use Rattle.log_stream.proofs.Vocabulary.{spelled_event, spelled_row, LogMark, IsLogGap, IsLogTokenAt, LogTokensLead}
-use Rattle.log_stream.proofs.Vocabulary.{WrittenArgument, WrittenEvent, argument_token, event_tokens, row_tokens}
-use Rattle.log_stream.proofs.Vocabulary.{argument_at, event_at}
+use Rattle.log_stream.proofs.Vocabulary.{◌≡◌, ℕ, ◌+◌, ◌<◌, ◌≤◌, ◌&&◌, Bool, true, false, List, [], ◌∷◌, ◌++◌, length, take_while, drop, slice_index, slice_index_or, IsTrue, if◌then◌else◌, inl, inr}
+use Rattle.log_stream.proofs.Vocabulary.{◌⊎◌, refl, sym, ap, subst, ◌∙◌, arith, append_assoc, length-append, length-drop, add-zero, flat_map, list_all, cases_lt, nat_tests, drop-drop, drop_all}
+use Rattle.log_stream.proofs.Vocabulary.{drop_at, get_or-drop, take_while-cons, is_word, is_word_byte, is_word_start, spelled, EndsBefore, ValueTokenAt, is_blank, IsValue, PrintedIsToken, Event}
+use Rattle.log_stream.proofs.Vocabulary.{Value, Num, Text, spelled_event, spelled_row, LogMark, IsLogGap, IsLogTokenAt, LogTokensLead, WrittenArgument, WrittenEvent, argument_token, event_tokens}
+use Rattle.log_stream.proofs.Vocabulary.{row_tokens, argument_at, event_at}
 use Rattle.log_stream.proofs.TokensByFirstByte.{BeginsValue, value_first}
 use Rattle.log_stream.proofs.PlainBytes.{word_bytes}
 use Rattle.log_stream.proofs.ReadParts.{leads-append}

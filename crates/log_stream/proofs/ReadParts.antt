@@ -1,14 +1,9 @@
 -- What is read of a record, part by part, and how the parts are put together.
-use Rattle.log_stream.proofs.Vocabulary.{◌≡◌, ℕ, ◌==◌, Bool, true, false, List, [], ◌∷◌, ◌++◌}
-use Rattle.log_stream.proofs.Vocabulary.{length, Option, None, Some, if◌then◌else◌, refl, subst, ◌∙◌}
-use Rattle.log_stream.proofs.Vocabulary.{slice_get, option_or, eqb-true, Value, has_sort, Sort, StepKind, System}
-use Rattle.log_stream.proofs.Vocabulary.{LogMode, Input, TraceLog, LogRefusal, BadRecord, UnknownName, Arity, SortClash}
-use Rattle.log_stream.proofs.Vocabulary.{TooLong, TimeTooLarge, Truncated, NoMemory, argument_clash, LogToken, LogMark}
-use Rattle.log_stream.proofs.Vocabulary.{LogTime, LogName, LogArgument, IsLogTokenAt, LogTokensLead, WrittenArgument}
-use Rattle.log_stream.proofs.Vocabulary.{WrittenEvent, Line, TickLine, IsBadRecord, RecordState, RecordStart}
-use Rattle.log_stream.proofs.Vocabulary.{RecordMarked, Ticking, Ticked, Events, Named, Opened, Valued, Comma, Done}
-use Rattle.log_stream.proofs.Vocabulary.{IsBadFrom, IsStuckAt, FailsReading, argument_at, clash_at, event_at}
-use Rattle.log_stream.proofs.Vocabulary.{inserted_state, record_next, record_run}
+use Rattle.log_stream.proofs.Vocabulary.{◌≡◌, ℕ, ◌==◌, Bool, true, false, List, [], ◌∷◌, ◌++◌, length, Option, None, Some, if◌then◌else◌, refl, subst, ◌∙◌, slice_get, option_or, eqb-true, Value}
+use Rattle.log_stream.proofs.Vocabulary.{has_sort, Sort, StepKind, System, LogMode, Input, TraceLog, LogRefusal, BadRecord, UnknownName, Arity, SortClash, TooLong, TimeTooLarge, Truncated, NoMemory}
+use Rattle.log_stream.proofs.Vocabulary.{argument_clash, LogToken, LogMark, LogTime, LogName, LogArgument, IsLogTokenAt, LogTokensLead, WrittenArgument, WrittenEvent, Line, TickLine, IsBadRecord}
+use Rattle.log_stream.proofs.Vocabulary.{RecordState, RecordStart, RecordMarked, Ticking, Ticked, Events, Named, Opened, Valued, Comma, Done, IsBadFrom, IsStuckAt, FailsReading, argument_at, clash_at}
+use Rattle.log_stream.proofs.Vocabulary.{event_at, inserted_state, record_next, record_run}
 use Rattle.log_stream.proofs.StateFronts.{not_begun, run_onto, runs_begin, sentence_done}
 
 pub leads-append : (bytes : List ℕ) (a b c : ℕ) (front rest : List LogToken) → LogTokensLead bytes a front b → LogTokensLead bytes b rest c → LogTokensLead bytes a (front ++ rest) c

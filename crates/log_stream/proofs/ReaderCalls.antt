@@ -1,13 +1,8 @@
 -- What a call of a reader does, by what stands at the front of its rest.
-use Rattle.log_stream.proofs.Vocabulary.{◌≡◌, ℕ, ◌+◌, ◌-◌, ◌<◌, ◌≤◌, List, [], length, take}
-use Rattle.log_stream.proofs.Vocabulary.{drop, Option, None, Some, Bool, false, true≢false, Ok, Err, inr, refl, sym}
-use Rattle.log_stream.proofs.Vocabulary.{ap, subst, ◌∙◌, arith, length-drop, drop-drop, drop_all, take-take}
-use Rattle.log_stream.proofs.Vocabulary.{take_all, same_Some, is_some, NameEntry, Item, LogItem, LogMode, LogRefusal}
-use Rattle.log_stream.proofs.Vocabulary.{BadRecord, UnknownName, Arity, SortClash, TooLong, TimeTooLarge, Truncated}
-use Rattle.log_stream.proofs.Vocabulary.{NoMemory, Scan, Outside, IsRecordAnswer, IsPending, IsTruncated, behind_blanks}
-use Rattle.log_stream.proofs.Vocabulary.{length_to_end, record_bytes, Reader, ReadsNext, BeginsAt, IsLasting, IsReader}
-use Rattle.log_stream.proofs.Vocabulary.{IsScanned, IsWholeAt, StandsWhole, lasting, scan_after, GivesRecordAnswer}
-use Rattle.log_stream.proofs.Vocabulary.{ReadsFront, MOST_RECORD_BYTES}
+use Rattle.log_stream.proofs.Vocabulary.{◌≡◌, ℕ, ◌+◌, ◌-◌, ◌<◌, ◌≤◌, List, [], length, take, drop, Option, None, Some, Bool, false, true≢false, Ok, Err, inr, refl, sym, ap, subst, ◌∙◌, arith}
+use Rattle.log_stream.proofs.Vocabulary.{length-drop, drop-drop, drop_all, take-take, take_all, same_Some, is_some, NameEntry, Item, LogItem, LogMode, LogRefusal, BadRecord, UnknownName, Arity}
+use Rattle.log_stream.proofs.Vocabulary.{SortClash, TooLong, TimeTooLarge, Truncated, NoMemory, Scan, Outside, IsRecordAnswer, IsPending, IsTruncated, behind_blanks, length_to_end, record_bytes}
+use Rattle.log_stream.proofs.Vocabulary.{Reader, ReadsNext, BeginsAt, IsLasting, IsReader, IsScanned, IsWholeAt, StandsWhole, lasting, scan_after, GivesRecordAnswer, ReadsFront, MOST_RECORD_BYTES}
 use Rattle.log_stream.proofs.WholeItems.{refusal_judged}
 use Rattle.log_stream.proofs.RestFronts.{behind_not_blank, nothing_scanned, whole_alone, whole_at}
 

@@ -1,23 +1,14 @@
 -- The parts of a record as its reader puts them together.
-use Rattle.log_stream.proofs.Vocabulary.{◌≡◌, ℕ, ◌+◌, ◌<◌, ◌≤◌, nat_lt, Bool, true, false, List}
-use Rattle.log_stream.proofs.Vocabulary.{[], ◌∷◌, ◌++◌, length, Option, None, Some, Result, Ok, Err, Contains}
-use Rattle.log_stream.proofs.Vocabulary.{if◌then◌else◌, refl, sym, ap, subst, ◌∙◌, arith, append_assoc}
-use Rattle.log_stream.proofs.Vocabulary.{slice_get, length-append, unwrap_or, IsTrue, ◌↔◌, true≢false, flat_map}
-use Rattle.log_stream.proofs.Vocabulary.{Decides, option_and_then, option_or, nat_tests, append-nil, length-map}
-use Rattle.log_stream.proofs.Vocabulary.{map-append, flat_map-append, has_event, has_event-Decides, InsertsItem}
-use Rattle.log_stream.proofs.Vocabulary.{InsertsEach, Event, NameId, Value, name_number, NameEntry, Sort, StepKind}
-use Rattle.log_stream.proofs.Vocabulary.{LogMode, LogRefusal, BadRecord, UnknownName, Arity, SortClash, TooLong}
-use Rattle.log_stream.proofs.Vocabulary.{TimeTooLarge, Truncated, NoMemory, argument_clash, entry_of_name}
-use Rattle.log_stream.proofs.Vocabulary.{event_from_written, event_refusal, event_refusal_by, first_event_refusal}
-use Rattle.log_stream.proofs.Vocabulary.{with_event_put, with_events_put, argument_values, LogMark, LogName}
-use Rattle.log_stream.proofs.Vocabulary.{LogArgument, IsLogTokenAt, LogTokensLead, WrittenArgument, WrittenEvent}
-use Rattle.log_stream.proofs.Vocabulary.{event_tokens, row_tokens, RecordState, RecordStart, Events, Named, Opened}
-use Rattle.log_stream.proofs.Vocabulary.{Valued, Comma, IsBadFrom, FailsReading, GivesRecordAnswer, JudgesEvent}
-use Rattle.log_stream.proofs.Vocabulary.{JudgesEvents, PutsEvent, ReadsEvent, ReadsRow, ReadsUpTo, argument_at}
-use Rattle.log_stream.proofs.Vocabulary.{clash_at, event_at, record_next, record_run, row_refusal, so_far, MOST_EVENTS}
+use Rattle.log_stream.proofs.Vocabulary.{◌≡◌, ℕ, ◌+◌, ◌<◌, ◌≤◌, nat_lt, Bool, true, false, List, [], ◌∷◌, ◌++◌, length, Option, None, Some, Result, Ok, Err, Contains, if◌then◌else◌, refl, sym, ap}
+use Rattle.log_stream.proofs.Vocabulary.{subst, ◌∙◌, arith, append_assoc, slice_get, length-append, unwrap_or, IsTrue, ◌↔◌, true≢false, flat_map, Decides, option_and_then, option_or, nat_tests}
+use Rattle.log_stream.proofs.Vocabulary.{append-nil, length-map, map-append, flat_map-append, has_event, has_event-Decides, InsertsItem, InsertsEach, Event, NameId, Value, name_number, NameEntry}
+use Rattle.log_stream.proofs.Vocabulary.{Sort, StepKind, LogMode, LogRefusal, BadRecord, UnknownName, Arity, SortClash, TooLong, TimeTooLarge, Truncated, NoMemory, argument_clash, entry_of_name}
+use Rattle.log_stream.proofs.Vocabulary.{event_from_written, event_refusal, event_refusal_by, first_event_refusal, with_event_put, with_events_put, argument_values, LogMark, LogName, LogArgument}
+use Rattle.log_stream.proofs.Vocabulary.{IsLogTokenAt, LogTokensLead, WrittenArgument, WrittenEvent, event_tokens, row_tokens, RecordState, RecordStart, Events, Named, Opened, Valued, Comma}
+use Rattle.log_stream.proofs.Vocabulary.{IsBadFrom, FailsReading, GivesRecordAnswer, JudgesEvent, JudgesEvents, PutsEvent, ReadsEvent, ReadsRow, ReadsUpTo, argument_at, clash_at, event_at}
+use Rattle.log_stream.proofs.Vocabulary.{record_next, record_run, row_refusal, so_far, MOST_EVENTS}
 use Rattle.log_stream.proofs.StateFronts.{row_push, run_events, run_onto, run_values}
-use Rattle.log_stream.proofs.ReadParts.{bad_behind, bad_here, clash_push, fails_behind, is_bad, leads-append}
-use Rattle.log_stream.proofs.ReadParts.{stuck_comma, stuck_events, stuck_named, stuck_opened, stuck_valued}
+use Rattle.log_stream.proofs.ReadParts.{bad_behind, bad_here, clash_push, fails_behind, is_bad, leads-append, stuck_comma, stuck_events, stuck_named, stuck_opened, stuck_valued}
 
 -- a fault at a place
 pub fails_bad : (mode : LogMode) (bytes : List ℕ) (from : ℕ) (state : RecordState) (place : ℕ) (refusal : LogRefusal) → refusal ≡ BadRecord place

@@ -1,19 +1,11 @@
 -- A record that is read where it stands, in bytes that go on after it: it ends where a scan finds the first end, and
 -- its tokens stand in its own bytes as well.
-use Rattle.log_stream.proofs.Vocabulary.{◌≡◌, ◌≢◌, ◌⊎◌, inl, inr, ℕ, ◌+◌, ◌-◌, ◌<◌}
-use Rattle.log_stream.proofs.Vocabulary.{◌≤◌, ◌==◌, suc, zero, Bool, true, false, List, [], ◌∷◌}
-use Rattle.log_stream.proofs.Vocabulary.{◌++◌, length, take, drop, get_or, slice_index, take_while, Some, IsTrue}
-use Rattle.log_stream.proofs.Vocabulary.{if◌then◌else◌, refl, sym, ap, subst, ◌∙◌, arith, append_assoc}
-use Rattle.log_stream.proofs.Vocabulary.{true≢false, length-append, length-take, pos, AllByRecursion, flat_map}
-use Rattle.log_stream.proofs.Vocabulary.{option_map, nat_tests, drop-drop, get_or-drop, length-take-le}
-use Rattle.log_stream.proofs.Vocabulary.{take-append-drop, take_while-cons, drop-cons, cases_lt, AllByRecursion-append}
-use Rattle.log_stream.proofs.Vocabulary.{is_word_byte, is_blank, EndsBefore, IsWrittenByte, IsValueToken, IsWrittenText}
-use Rattle.log_stream.proofs.Vocabulary.{ValueTokenAt, Value, Num, Text, false_from_ne, length_to_end, LogToken}
-use Rattle.log_stream.proofs.Vocabulary.{LogMark, LogTime, LogName, LogArgument, IsLogGap, LogTokensLead, IsLogTokenAt}
-use Rattle.log_stream.proofs.Vocabulary.{WrittenArgument, WrittenEvent, event_tokens, row_tokens, scan_after, Outside}
-use Rattle.log_stream.proofs.Vocabulary.{Inside, Escaped}
-use Rattle.log_stream.proofs.PlainBytes.{ArePlain, Stays, digits_plain, plain_stays, stays_append, stays_one}
-use Rattle.log_stream.proofs.PlainBytes.{word_plain}
+use Rattle.log_stream.proofs.Vocabulary.{◌≡◌, ◌≢◌, ◌⊎◌, inl, inr, ℕ, ◌+◌, ◌-◌, ◌<◌, ◌≤◌, ◌==◌, suc, zero, Bool, true, false, List, [], ◌∷◌, ◌++◌, length, take, drop, get_or, slice_index, take_while}
+use Rattle.log_stream.proofs.Vocabulary.{Some, IsTrue, if◌then◌else◌, refl, sym, ap, subst, ◌∙◌, arith, append_assoc, true≢false, length-append, length-take, pos, AllByRecursion, flat_map, option_map}
+use Rattle.log_stream.proofs.Vocabulary.{nat_tests, drop-drop, get_or-drop, length-take-le, take-append-drop, take_while-cons, drop-cons, cases_lt, AllByRecursion-append, is_word_byte, is_blank}
+use Rattle.log_stream.proofs.Vocabulary.{EndsBefore, IsWrittenByte, IsValueToken, IsWrittenText, ValueTokenAt, Value, Num, Text, false_from_ne, length_to_end, LogToken, LogMark, LogTime, LogName}
+use Rattle.log_stream.proofs.Vocabulary.{LogArgument, IsLogGap, LogTokensLead, IsLogTokenAt, WrittenArgument, WrittenEvent, event_tokens, row_tokens, scan_after, Outside, Inside, Escaped}
+use Rattle.log_stream.proofs.PlainBytes.{ArePlain, Stays, digits_plain, plain_stays, stays_append, stays_one, word_plain}
 use Rattle.log_stream.proofs.ReadParts.{leads-append}
 use Rattle.log_stream.proofs.RestFronts.{after_onward, end_onward}
 

@@ -1,12 +1,8 @@
 -- The record at the front of a rest, as a scan finds it.
-use Rattle.log_stream.proofs.Vocabulary.{◌≡◌, ℕ, ◌+◌, ◌-◌, ◌<◌, ◌≤◌, ◌==◌, ◌&&◌, suc}
-use Rattle.log_stream.proofs.Vocabulary.{zero, min, Bool, true, false, List, [], ◌∷◌, ◌++◌, ◌⊎◌, inl}
-use Rattle.log_stream.proofs.Vocabulary.{inr, length, take, drop, slice_index, Option, None, Some, IsTrue}
-use Rattle.log_stream.proofs.Vocabulary.{if◌then◌else◌, refl, sym, ap, subst, ◌∙◌, arith, length-drop}
-use Rattle.log_stream.proofs.Vocabulary.{length-take, add-one, option_map, drop-drop, get_or-drop, take-append-drop}
-use Rattle.log_stream.proofs.Vocabulary.{take-take, take_all, take_min, is_blank, behind_blanks, is_outside}
-use Rattle.log_stream.proofs.Vocabulary.{length_to_end, record_length, scan_behind, IsLogGap, BeginsAt, IsScanned}
-use Rattle.log_stream.proofs.Vocabulary.{IsWholeAt, scan_after, Scan, Outside, MOST_RECORD_BYTES}
+use Rattle.log_stream.proofs.Vocabulary.{◌≡◌, ℕ, ◌+◌, ◌-◌, ◌<◌, ◌≤◌, ◌==◌, ◌&&◌, suc, zero, min, Bool, true, false, List, [], ◌∷◌, ◌++◌, ◌⊎◌, inl, inr, length, take, drop, slice_index, Option, None}
+use Rattle.log_stream.proofs.Vocabulary.{Some, IsTrue, if◌then◌else◌, refl, sym, ap, subst, ◌∙◌, arith, length-drop, length-take, add-one, option_map, drop-drop, get_or-drop, take-append-drop}
+use Rattle.log_stream.proofs.Vocabulary.{take-take, take_all, take_min, is_blank, behind_blanks, is_outside, length_to_end, record_length, scan_behind, IsLogGap, BeginsAt, IsScanned, IsWholeAt}
+use Rattle.log_stream.proofs.Vocabulary.{scan_after, Scan, Outside, MOST_RECORD_BYTES}
 use Rattle.log_stream.proofs.Scans.{map_more, map_none}
 
 blanks_front : (xs : List ℕ) (n : ℕ) → n ≤ length xs → ((k : ℕ) → k < n → IsTrue (is_blank (slice_index xs k))) → is_blank (slice_index xs n) ≡ false → drop n xs ≡ behind_blanks xs

@@ -1,29 +1,17 @@
 -- A step's line is read again as the step.
-use Rattle.log_stream.proofs.Vocabulary.{◌≡◌, ◌≢◌, ℕ, pos, ◌+◌, ◌^◌, ◌<◌, ◌≤◌, ◌&&◌}
-use Rattle.log_stream.proofs.Vocabulary.{not, Bool, true, false, List, [], ◌∷◌, ◌++◌, length, map, take, drop}
-use Rattle.log_stream.proofs.Vocabulary.{slice_index, slice_get, None, Some, Ok, Err, IsTrue, Contains}
-use Rattle.log_stream.proofs.Vocabulary.{if◌then◌else◌, refl, sym, ap, subst, ◌∙◌, arith, append_assoc}
-use Rattle.log_stream.proofs.Vocabulary.{length-append, unwrap_or, decimal, Decides, digit_value, AllByRecursion}
-use Rattle.log_stream.proofs.Vocabulary.{option_and_then, option_map, option_or, AllDigits, nat_tests}
-use Rattle.log_stream.proofs.Vocabulary.{decimal_is_IsNumeral, append-nil, take_all, take_at, drop_at}
-use Rattle.log_stream.proofs.Vocabulary.{get_or_from_slice_get, slice_get-map, slice_get_within, has_event}
-use Rattle.log_stream.proofs.Vocabulary.{has_event-Decides, HasNoRepeats, HasNoRepeats-middle, is_reserved, is_word}
-use Rattle.log_stream.proofs.Vocabulary.{spelled, EndsBefore, is_blank, PrintedIsToken, Event, Value, Num, true_from_eq}
-use Rattle.log_stream.proofs.Vocabulary.{IsNameEntry, IsSignature, name_number, entry_names as names_of, number_only}
-use Rattle.log_stream.proofs.Vocabulary.{NameEntry, Sort, StepKind, System, Inserted, Step, Arity, SortClash}
-use Rattle.log_stream.proofs.Vocabulary.{TimeTooLarge, Outside, IsRecordAnswer, argument_clash, entry_of_name}
-use Rattle.log_stream.proofs.Vocabulary.{event_from_written, event_refusal, event_refusal_by, events_from_written}
-use Rattle.log_stream.proofs.Vocabulary.{first_event_refusal, judged_record, judged_step, with_events_put}
-use Rattle.log_stream.proofs.Vocabulary.{argument_values, spelled_event, spelled_row, spelled_step, step_line}
-use Rattle.log_stream.proofs.Vocabulary.{behind_blanks, length_to_end, record_bytes, record_length, IsLogGap}
-use Rattle.log_stream.proofs.Vocabulary.{LogTokensLead, Line, IsRecordSpelled, mark_of, record_tokens, most_time}
-use Rattle.log_stream.proofs.Vocabulary.{FitColumns, IsDeclared, IsWithinLimits, StepLineIsRead, MOST_EVENTS}
-use Rattle.log_stream.proofs.Vocabulary.{MOST_RECORD_BYTES}
+use Rattle.log_stream.proofs.Vocabulary.{◌≡◌, ◌≢◌, ℕ, pos, ◌+◌, ◌^◌, ◌<◌, ◌≤◌, ◌&&◌, not, Bool, true, false, List, [], ◌∷◌, ◌++◌, length, map, take, drop, slice_index, slice_get, None, Some, Ok, Err}
+use Rattle.log_stream.proofs.Vocabulary.{IsTrue, Contains, if◌then◌else◌, refl, sym, ap, subst, ◌∙◌, arith, append_assoc, length-append, unwrap_or, decimal, Decides, digit_value, AllByRecursion}
+use Rattle.log_stream.proofs.Vocabulary.{option_and_then, option_map, option_or, AllDigits, nat_tests, decimal_is_IsNumeral, append-nil, take_all, take_at, drop_at, get_or_from_slice_get}
+use Rattle.log_stream.proofs.Vocabulary.{slice_get-map, slice_get_within, has_event, has_event-Decides, HasNoRepeats, HasNoRepeats-middle, is_reserved, is_word, spelled, EndsBefore, is_blank}
+use Rattle.log_stream.proofs.Vocabulary.{PrintedIsToken, Event, Value, Num, true_from_eq, IsNameEntry, IsSignature, name_number, entry_names as names_of, number_only, NameEntry, Sort, StepKind}
+use Rattle.log_stream.proofs.Vocabulary.{System, Inserted, Step, Arity, SortClash, TimeTooLarge, Outside, IsRecordAnswer, argument_clash, entry_of_name, event_from_written, event_refusal}
+use Rattle.log_stream.proofs.Vocabulary.{event_refusal_by, events_from_written, first_event_refusal, judged_record, judged_step, with_events_put, argument_values, spelled_event, spelled_row}
+use Rattle.log_stream.proofs.Vocabulary.{spelled_step, step_line, behind_blanks, length_to_end, record_bytes, record_length, IsLogGap, LogTokensLead, Line, IsRecordSpelled, mark_of, record_tokens}
+use Rattle.log_stream.proofs.Vocabulary.{most_time, FitColumns, IsDeclared, IsWithinLimits, StepLineIsRead, MOST_EVENTS, MOST_RECORD_BYTES}
 use Rattle.log_stream.proofs.LogLaws.{end_stays}
 use Rattle.log_stream.proofs.PlainBytes.{Stays, decimal_plain, plain_stays, spelled_stays, stays_append, word_plain}
-use Rattle.log_stream.proofs.PrintedTokens.{AreValues, ArePrintable, at_place, behind_front, commas, events_lead}
-use Rattle.log_stream.proofs.PrintedTokens.{gap_none, mark_stands, name_of, space_before, spaced, value_stands}
-use Rattle.log_stream.proofs.PrintedTokens.{written_args, written_event, written_events}
+use Rattle.log_stream.proofs.PrintedTokens.{AreValues, ArePrintable, at_place, behind_front, commas, events_lead, gap_none, mark_stands, name_of, space_before, spaced, value_stands, written_args}
+use Rattle.log_stream.proofs.PrintedTokens.{written_event, written_events}
 use Rattle.log_stream.proofs.WholeItems.{in_time}
 use Rattle.log_stream.proofs.RestFronts.{begun_stays, end_onward}
 

@@ -1,11 +1,7 @@
 -- A scan for the end of a record: it stays where it is up to the bytes at which it can turn.
-use Rattle.log_stream.proofs.Vocabulary.{◌≡◌, ℕ, ◌+◌, ◌-◌, ◌<◌, ◌≤◌, ◌==◌, ◌&&◌}
-use Rattle.log_stream.proofs.Vocabulary.{◌||◌, suc, zero, Bool, true, false, List, [], ◌∷◌, length, drop}
-use Rattle.log_stream.proofs.Vocabulary.{slice_index, Option, None, Some, if◌then◌else◌, refl, sym, ap, ◌∙◌}
-use Rattle.log_stream.proofs.Vocabulary.{arith, length-drop, option_map, eqb-true, false_from_ne_true, drop_all}
-use Rattle.log_stream.proofs.Vocabulary.{drop_more, drop-drop, Passes, NoneBefore, Nowhere, is_byte2, is_outside}
-use Rattle.log_stream.proofs.Vocabulary.{length_to_end, scan_behind, ScanGoesOn, scan_after, Scan, Outside, Inside}
-use Rattle.log_stream.proofs.Vocabulary.{Escaped}
+use Rattle.log_stream.proofs.Vocabulary.{◌≡◌, ℕ, ◌+◌, ◌-◌, ◌<◌, ◌≤◌, ◌==◌, ◌&&◌, ◌||◌, suc, zero, Bool, true, false, List, [], ◌∷◌, length, drop, slice_index, Option, None, Some, if◌then◌else◌, refl}
+use Rattle.log_stream.proofs.Vocabulary.{sym, ap, ◌∙◌, arith, length-drop, option_map, eqb-true, false_from_ne_true, drop_all, drop_more, drop-drop, Passes, NoneBefore, Nowhere, is_byte2, is_outside}
+use Rattle.log_stream.proofs.Vocabulary.{length_to_end, scan_behind, ScanGoesOn, scan_after, Scan, Outside, Inside, Escaped}
 
 pub map_more : (m n k : ℕ) (o : Option ℕ) → m + n ≡ k → option_map (λ x. x + n) (option_map (λ x. x + m) o) ≡ option_map (λ x. x + k) o
 map_more m n k None e = refl

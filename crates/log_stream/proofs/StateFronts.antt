@@ -1,15 +1,9 @@
 -- The tokens of a record, one after another: the state after a front of them, and the fronts that can begin a record.
-use Rattle.log_stream.proofs.Vocabulary.{◌≡◌, ℕ, ◌+◌, ◌<◌, ◌≤◌, ◌==◌, nat_lt, pos, Bool, true}
-use Rattle.log_stream.proofs.Vocabulary.{false, List, [], ◌∷◌, ◌++◌, length, Option, None, Some}
-use Rattle.log_stream.proofs.Vocabulary.{if◌then◌else◌, refl, sym, ap, subst, ◌∙◌, arith, append_assoc}
-use Rattle.log_stream.proofs.Vocabulary.{length-append, flat_map, option_and_then, append-nil, flat_map-append}
-use Rattle.log_stream.proofs.Vocabulary.{eqb-true, nat_tests, same_Some, Num, StepKind, System, Inserted, LogMode}
-use Rattle.log_stream.proofs.Vocabulary.{Input, TraceLog, RecordState, RecordStart, RecordMarked, Ticking, Ticked}
-use Rattle.log_stream.proofs.Vocabulary.{Events, Named, Opened, Valued, Comma, Done, argument_at, event_at}
-use Rattle.log_stream.proofs.Vocabulary.{inserted_state, record_next, record_run, LogToken, LogMark, LogTime, LogName}
-use Rattle.log_stream.proofs.Vocabulary.{LogArgument, WrittenArgument, WrittenEvent, WrittenRecord, Line, TickLine}
-use Rattle.log_stream.proofs.Vocabulary.{mark_of, argument_token, row_tokens, event_tokens, record_tokens, ModeReads}
-use Rattle.log_stream.proofs.Vocabulary.{IsRecordForm, IsRecordSentence, CanBeginRecord, MOST_EVENTS}
+use Rattle.log_stream.proofs.Vocabulary.{◌≡◌, ℕ, ◌+◌, ◌<◌, ◌≤◌, ◌==◌, nat_lt, pos, Bool, true, false, List, [], ◌∷◌, ◌++◌, length, Option, None, Some, if◌then◌else◌, refl, sym, ap, subst, ◌∙◌, arith}
+use Rattle.log_stream.proofs.Vocabulary.{append_assoc, length-append, flat_map, option_and_then, append-nil, flat_map-append, eqb-true, nat_tests, same_Some, Num, StepKind, System, Inserted, LogMode}
+use Rattle.log_stream.proofs.Vocabulary.{Input, TraceLog, RecordState, RecordStart, RecordMarked, Ticking, Ticked, Events, Named, Opened, Valued, Comma, Done, argument_at, event_at, inserted_state}
+use Rattle.log_stream.proofs.Vocabulary.{record_next, record_run, LogToken, LogMark, LogTime, LogName, LogArgument, WrittenArgument, WrittenEvent, WrittenRecord, Line, TickLine, mark_of}
+use Rattle.log_stream.proofs.Vocabulary.{argument_token, row_tokens, event_tokens, record_tokens, ModeReads, IsRecordForm, IsRecordSentence, CanBeginRecord, MOST_EVENTS}
 
 pub run-append : (mode : LogMode) (state : RecordState) (front rest : List LogToken) → record_run mode state (front ++ rest)
     ≡ option_and_then (λ after. record_run mode after rest) (record_run mode state front)

@@ -1,8 +1,6 @@
 -- Texts that are appended part by part, and fronts of them that were appended before memory ran out.
-use Rattle.log_stream.proofs.Vocabulary.{◌≡◌, ℕ, zero, suc, List, [], ◌∷◌, ◌++◌, ◌-◌, ◌≤◌}
-use Rattle.log_stream.proofs.Vocabulary.{length, take, drop, get_or, refl, sym, ap, ◌∙◌, arith, append_assoc}
-use Rattle.log_stream.proofs.Vocabulary.{None, slice_get, append-nil, take_all, flat_map, AppendsPart, spelled, Value}
-use Rattle.log_stream.proofs.Vocabulary.{part_none, entry_names as names_of, NameEntry, spelled_row}
+use Rattle.log_stream.proofs.Vocabulary.{◌≡◌, ℕ, zero, suc, List, [], ◌∷◌, ◌++◌, ◌-◌, ◌≤◌, length, take, drop, get_or, refl, sym, ap, ◌∙◌, arith, append_assoc, None, slice_get, append-nil, take_all}
+use Rattle.log_stream.proofs.Vocabulary.{flat_map, AppendsPart, spelled, Value, part_none, entry_names as names_of, NameEntry, spelled_row}
 
 -- a front of the middle of a text, after its beginning, is a front of the text
 pub part_inside : (whole start text end before middle after : List ℕ) → whole ≡ start ++ (text ++ end) → middle ≡ before ++ start

@@ -1,10 +1,7 @@
 -- The words and values at a place, by their first byte.
-use Rattle.log_stream.proofs.Vocabulary.{◌≡◌, ◌⊎◌, inl, inr, ℕ, ◌≤◌, Bool, true, false, ◌&&◌}
-use Rattle.log_stream.proofs.Vocabulary.{List, [], ◌∷◌, ◌++◌, length, take_while, slice_index}
-use Rattle.log_stream.proofs.Vocabulary.{if◌then◌else◌, refl, sym, ap, subst, ◌∙◌, IsTrue, arith, add-zero}
-use Rattle.log_stream.proofs.Vocabulary.{is_ascii_digit, list_all, nat_tests, get_or-drop, take_while-cons, is_word}
-use Rattle.log_stream.proofs.Vocabulary.{is_word_byte, is_word_start, IsValueToken, ValueTokenAt, Value, Num, Text}
-use Rattle.log_stream.proofs.Vocabulary.{front_passes, range_from_digit}
+use Rattle.log_stream.proofs.Vocabulary.{◌≡◌, ◌⊎◌, inl, inr, ℕ, ◌≤◌, Bool, true, false, ◌&&◌, List, [], ◌∷◌, ◌++◌, length, take_while, slice_index, if◌then◌else◌, refl, sym, ap, subst, ◌∙◌, IsTrue}
+use Rattle.log_stream.proofs.Vocabulary.{arith, add-zero, is_ascii_digit, list_all, nat_tests, get_or-drop, take_while-cons, is_word, is_word_byte, is_word_start, IsValueToken, ValueTokenAt, Value}
+use Rattle.log_stream.proofs.Vocabulary.{Num, Text, front_passes, range_from_digit}
 
 starts_word : (x : ℕ) → is_word_byte x ≡ true → is_ascii_digit x ≡ false → is_word_start x ≡ true
 starts_word x e d = grind (arith, nat_tests)

@@ -1,21 +1,14 @@
 -- A step or a tick as a whole.
-use Rattle.log_stream.proofs.Vocabulary.{◌≡◌, ℕ, ◌<◌, ◌≤◌, nat_lt, ◌==◌, Bool, true, false, List}
-use Rattle.log_stream.proofs.Vocabulary.{[], ◌∷◌, ◌++◌, length, Option, None, Some, Result, Ok, Err}
-use Rattle.log_stream.proofs.Vocabulary.{if◌then◌else◌, refl, sym, ap, subst, ◌∙◌, arith, option_map}
-use Rattle.log_stream.proofs.Vocabulary.{option_or, flat_map, nat_tests, InsertsEach, Event, NameEntry, Sort, StepKind}
-use Rattle.log_stream.proofs.Vocabulary.{System, Inserted, LogItem, LogMode, Input, TraceLog, LogRefusal, BadRecord}
-use Rattle.log_stream.proofs.Vocabulary.{UnknownName, Arity, SortClash, TooLong, TimeTooLarge, Truncated, NoMemory}
-use Rattle.log_stream.proofs.Vocabulary.{argument_clash, event_refusal, event_refusal_by, entry_of_name}
-use Rattle.log_stream.proofs.Vocabulary.{events_from_written, first_event_refusal, judged_record, judged_step}
-use Rattle.log_stream.proofs.Vocabulary.{with_events_put, LogMark, LogTime, IsLogTokenAt, LogTokensLead, WrittenEvent}
-use Rattle.log_stream.proofs.Vocabulary.{WrittenRecord, Line, TickLine, ModeReads, IsRecordSpelled, event_tokens}
-use Rattle.log_stream.proofs.Vocabulary.{mark_of, record_tokens, most_time, RecordStart, RecordMarked, Ticking, Ticked}
-use Rattle.log_stream.proofs.Vocabulary.{Events, FailsReading, GivesRecordAnswer, record_next, record_run}
+use Rattle.log_stream.proofs.Vocabulary.{◌≡◌, ℕ, ◌<◌, ◌≤◌, nat_lt, ◌==◌, Bool, true, false, List, [], ◌∷◌, ◌++◌, length, Option, None, Some, Result, Ok, Err, if◌then◌else◌, refl, sym, ap, subst, ◌∙◌}
+use Rattle.log_stream.proofs.Vocabulary.{arith, option_map, option_or, flat_map, nat_tests, InsertsEach, Event, NameEntry, Sort, StepKind, System, Inserted, LogItem, LogMode, Input, TraceLog}
+use Rattle.log_stream.proofs.Vocabulary.{LogRefusal, BadRecord, UnknownName, Arity, SortClash, TooLong, TimeTooLarge, Truncated, NoMemory, argument_clash, event_refusal, event_refusal_by}
+use Rattle.log_stream.proofs.Vocabulary.{entry_of_name, events_from_written, first_event_refusal, judged_record, judged_step, with_events_put, LogMark, LogTime, IsLogTokenAt, LogTokensLead}
+use Rattle.log_stream.proofs.Vocabulary.{WrittenEvent, WrittenRecord, Line, TickLine, ModeReads, IsRecordSpelled, event_tokens, mark_of, record_tokens, most_time, RecordStart, RecordMarked, Ticking}
+use Rattle.log_stream.proofs.Vocabulary.{Ticked, Events, FailsReading, GivesRecordAnswer, record_next, record_run}
 use Rattle.log_stream.proofs.EventLists.{ReadsEvents}
 use Rattle.log_stream.proofs.StateFronts.{run_onto}
 use Rattle.log_stream.proofs.RecordParts.{fails_bad, fails_gives, firsts_put}
-use Rattle.log_stream.proofs.ReadParts.{bad_behind, bad_here, fails_behind, leads-append, stuck_marked, stuck_start}
-use Rattle.log_stream.proofs.ReadParts.{stuck_ticked, stuck_ticking}
+use Rattle.log_stream.proofs.ReadParts.{bad_behind, bad_here, fails_behind, leads-append, stuck_marked, stuck_start, stuck_ticked, stuck_ticking}
 use Rattle.log_stream.proofs.OneLog.{ok_not_err, err_is}
 use Rattle.log_stream.specs.declared.items.LogItem.TheVariants as items
 

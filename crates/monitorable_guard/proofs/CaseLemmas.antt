@@ -1,6 +1,5 @@
 -- The variables of small lists of terms.
-use Rattle.monitorable_guard.proofs.Vocabulary.{◌≡◌, ℕ, ◌<◌, ◌⊎◌, ⊎_elim, ap, arith, Var, VarId}
-use Rattle.monitorable_guard.proofs.Vocabulary.{variable_is, variable_x, guard_case_y, three}
+use Rattle.monitorable_guard.proofs.Vocabulary.{◌≡◌, ℕ, ◌<◌, ◌⊎◌, ⊎_elim, ap, arith, Var, VarId, variable_is, variable_x, guard_case_y, three}
 
 -- and of a comparison with a constant
 pub below : (b : VarId) → (Var variable_x ≡ Var b) ⊎ (three ≡ Var b) → variable_x ≡ b

@@ -1,9 +1,6 @@
 -- What it takes to evaluate a formula, from what its parts ask.
-use Rattle.monitorable_guard.proofs.Vocabulary.{◌≡◌, ⊎_elim, Bool, List, [], ◌∷◌, ◌++◌, drop, length}
-use Rattle.monitorable_guard.proofs.Vocabulary.{slice_get, Some, All, Contains, IsTrue, ◌↔◌, ◌⊎◌, sym}
-use Rattle.monitorable_guard.proofs.Vocabulary.{subst, All-contains, Contains-append_left, Contains-append_right, VarId}
-use Rattle.monitorable_guard.proofs.Vocabulary.{all_from, Formula, AreFreeVariables, Contains-append, Relation}
-use Rattle.monitorable_guard.proofs.Vocabulary.{FitOperators, outermost, tables_beyond, BindsFresh}
+use Rattle.monitorable_guard.proofs.Vocabulary.{◌≡◌, ⊎_elim, Bool, List, [], ◌∷◌, ◌++◌, drop, length, slice_get, Some, All, Contains, IsTrue, ◌↔◌, ◌⊎◌, sym, subst, All-contains, Contains-append_left}
+use Rattle.monitorable_guard.proofs.Vocabulary.{Contains-append_right, VarId, all_from, Formula, AreFreeVariables, Contains-append, Relation, FitOperators, outermost, tables_beyond, BindsFresh}
 use Rattle.monitorable_guard.proofs.AgreementLemmas.{fit_front, fit_back}
 use Rattle.monitorable_guard.proofs.PartLemmas.{fresh_within}
 

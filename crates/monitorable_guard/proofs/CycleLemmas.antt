@@ -1,20 +1,12 @@
 -- What the functions of the evaluation hand on to each other.
-use Rattle.monitorable_guard.proofs.Vocabulary.{◌≡◌, ℕ, ◌+◌, ◌-◌, ◌^◌, ◌<◌, ◌≤◌, Bool}
-use Rattle.monitorable_guard.proofs.Vocabulary.{true, false, not, ◌==◌, Fits, w64, ◌⊎◌, inl, inr, ⊎_elim}
-use Rattle.monitorable_guard.proofs.Vocabulary.{List, [], ◌∷◌, ◌++◌, length, get_or, take, drop, Result, Ok}
-use Rattle.monitorable_guard.proofs.Vocabulary.{Err, IfOk, IsSome, IsTrue, Contains, ◌↔◌, refl, sym, ap, subst}
-use Rattle.monitorable_guard.proofs.Vocabulary.{◌∙◌, arith, length-append, length-drop, Equal, Formula, Implies}
-use Rattle.monitorable_guard.proofs.Vocabulary.{Forall, false≢true, eqb-true, drop-drop, take_more}
-use Rattle.monitorable_guard.proofs.Vocabulary.{Contains-append_left, Contains-append_right, Contains-push_cases}
-use Rattle.monitorable_guard.proofs.Vocabulary.{IfOk-weaker, Valuation, no_values, value_at, value_of_term, Event, Term}
-use Rattle.monitorable_guard.proofs.Vocabulary.{Var, Const, VarId, Value, all_from, here, none_in_nil, some_or_none}
-use Rattle.monitorable_guard.proofs.Vocabulary.{table_row-length, filled_from_row, Relation, IsTable, AddsRows}
-use Rattle.monitorable_guard.proofs.Vocabulary.{AmongRows, IsSolution, AreBoundOrFree, AreOpenUnder, CanAskFormula}
-use Rattle.monitorable_guard.proofs.Vocabulary.{RowsFitColumns, HasAnswers, IsGuardAnswer, IsBoundBy, FitOperators}
-use Rattle.monitorable_guard.proofs.Vocabulary.{HoldsNow, outermost, tables_beyond, Safe, FreeWithin, Assigns}
+use Rattle.monitorable_guard.proofs.Vocabulary.{◌≡◌, ℕ, ◌+◌, ◌-◌, ◌^◌, ◌<◌, ◌≤◌, Bool, true, false, not, ◌==◌, Fits, w64, ◌⊎◌, inl, inr, ⊎_elim, List, [], ◌∷◌, ◌++◌, length, get_or, take, drop}
+use Rattle.monitorable_guard.proofs.Vocabulary.{Result, Ok, Err, IfOk, IsSome, IsTrue, Contains, ◌↔◌, refl, sym, ap, subst, ◌∙◌, arith, length-append, length-drop, Equal, Formula, Implies, Forall}
+use Rattle.monitorable_guard.proofs.Vocabulary.{false≢true, eqb-true, drop-drop, take_more, Contains-append_left, Contains-append_right, Contains-push_cases, IfOk-weaker, Valuation, no_values}
+use Rattle.monitorable_guard.proofs.Vocabulary.{value_at, value_of_term, Event, Term, Var, Const, VarId, Value, all_from, here, none_in_nil, some_or_none, table_row-length, filled_from_row, Relation}
+use Rattle.monitorable_guard.proofs.Vocabulary.{IsTable, AddsRows, AmongRows, IsSolution, AreBoundOrFree, AreOpenUnder, CanAskFormula, RowsFitColumns, HasAnswers, IsGuardAnswer, IsBoundBy}
+use Rattle.monitorable_guard.proofs.Vocabulary.{FitOperators, HoldsNow, outermost, tables_beyond, Safe, FreeWithin, Assigns}
 use Rattle.monitorable_guard.proofs.PartLemmas.{ask_nested}
-use Rattle.monitorable_guard.proofs.EvaluationLemmas.{bound_from, closed_to, closed_from, filled_binds}
-use Rattle.monitorable_guard.proofs.EvaluationLemmas.{filled_binds_only, nested_same, not_bound}
+use Rattle.monitorable_guard.proofs.EvaluationLemmas.{bound_from, closed_to, closed_from, filled_binds, filled_binds_only, nested_same, not_bound}
 use Rattle.monitorable_guard.proofs.RowsLemmas.{adds_as}
 use Rattle.valuations.specs.machine.Tables as tabled
 

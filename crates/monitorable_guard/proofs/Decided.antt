@@ -1,8 +1,6 @@
 -- What is so or not so.
-use Rattle.monitorable_guard.proofs.Vocabulary.{◌≡◌, ℕ, zero, suc, ◌<◌, ◌≤◌, ◌⊎◌, inl, inr}
-use Rattle.monitorable_guard.proofs.Vocabulary.{⊎_elim, Bool, true, false, List, Contains, refl, subst, arith}
-use Rattle.monitorable_guard.proofs.Vocabulary.{cases_lt, not_from_Decides, Decides, Classically, Value}
-use Rattle.monitorable_guard.proofs.Vocabulary.{same_value_or_not, some_or_not}
+use Rattle.monitorable_guard.proofs.Vocabulary.{◌≡◌, ℕ, zero, suc, ◌<◌, ◌≤◌, ◌⊎◌, inl, inr, ⊎_elim, Bool, true, false, List, Contains, refl, subst, arith, cases_lt, not_from_Decides, Decides}
+use Rattle.monitorable_guard.proofs.Vocabulary.{Classically, Value, same_value_or_not, some_or_not}
 
 abbrev pub Decided : Type 0 → Type 0
 Decided P = P ⊎ (P → ⊥)

@@ -1,24 +1,15 @@
 -- A safe formula is satisfied or it is not: its quantifiers ask for finitely many values, and it does not look ahead.
-use Rattle.monitorable_guard.proofs.Vocabulary.{◌≡◌, ℕ, ◌-◌, ◌<◌, ◌≤◌, ◌<ℤ◌, ◌≤ℤ◌}
-use Rattle.monitorable_guard.proofs.Vocabulary.{ℤ, ◌⊎◌, inl, inr, ⊎_elim, List, ◌++◌, length, map, Option}
-use Rattle.monitorable_guard.proofs.Vocabulary.{None, Some, Contains, refl, sym, ◌∙◌, clash_ℤ, Decides-eqb}
-use Rattle.monitorable_guard.proofs.Vocabulary.{by_lt_z, length-map, step_at, has_event, has_event-Decides}
-use Rattle.monitorable_guard.proofs.Vocabulary.{same_value_or_not, IsIn, IsUpTo, Valuation, value_at, value_of_term}
-use Rattle.monitorable_guard.proofs.Vocabulary.{values_of_terms, with_values, Event, NameId, Interval, Step, VarId}
-use Rattle.monitorable_guard.proofs.Vocabulary.{Value, Num, Text, Formula, True, False, Atom, Equal, Less, AtMost, Not}
-use Rattle.monitorable_guard.proofs.Vocabulary.{And, Or, Implies, Exists, Forall, Prev, Next, Once, Historically, Since}
-use Rattle.monitorable_guard.proofs.Vocabulary.{Eventually, Always, Until, IsFree, Sat, IsEventAmong, AreSameValues}
-use Rattle.monitorable_guard.proofs.Vocabulary.{AreNumbersInOrder, HeldSince, HoldsAnywhere, elapsed}
-use Rattle.monitorable_guard.proofs.Vocabulary.{FreeVariablesDecide, among_or_not, Contains-append, some_or_not}
-use Rattle.monitorable_guard.proofs.Vocabulary.{value_at-with_outside, Safe, SafeBelow, FreeWithin, BoundOrFreeIn}
-use Rattle.monitorable_guard.proofs.Vocabulary.{NoneBound, BindsFresh}
-use Rattle.monitorable_guard.proofs.Decided.{Decided, contains_decided, decided_by, decided_as, decided_not}
-use Rattle.monitorable_guard.proofs.Decided.{decided_both, decided_or, decided_implies, decided_classically}
-use Rattle.monitorable_guard.proofs.Decided.{decided_at_most, stable_from, some_upto, all_between}
+use Rattle.monitorable_guard.proofs.Vocabulary.{◌≡◌, ℕ, ◌-◌, ◌<◌, ◌≤◌, ◌<ℤ◌, ◌≤ℤ◌, ℤ, ◌⊎◌, inl, inr, ⊎_elim, List, ◌++◌, length, map, Option, None, Some, Contains, refl, sym, ◌∙◌, clash_ℤ}
+use Rattle.monitorable_guard.proofs.Vocabulary.{Decides-eqb, by_lt_z, length-map, step_at, has_event, has_event-Decides, same_value_or_not, IsIn, IsUpTo, Valuation, value_at, value_of_term}
+use Rattle.monitorable_guard.proofs.Vocabulary.{values_of_terms, with_values, Event, NameId, Interval, Step, VarId, Value, Num, Text, Formula, True, False, Atom, Equal, Less, AtMost, Not, And, Or}
+use Rattle.monitorable_guard.proofs.Vocabulary.{Implies, Exists, Forall, Prev, Next, Once, Historically, Since, Eventually, Always, Until, IsFree, Sat, IsEventAmong, AreSameValues, AreNumbersInOrder}
+use Rattle.monitorable_guard.proofs.Vocabulary.{HeldSince, HoldsAnywhere, elapsed, FreeVariablesDecide, among_or_not, Contains-append, some_or_not, value_at-with_outside, Safe, SafeBelow, FreeWithin}
+use Rattle.monitorable_guard.proofs.Vocabulary.{BoundOrFreeIn, NoneBound, BindsFresh}
+use Rattle.monitorable_guard.proofs.Decided.{Decided, contains_decided, decided_by, decided_as, decided_not, decided_both, decided_or, decided_implies, decided_classically, decided_at_most}
+use Rattle.monitorable_guard.proofs.Decided.{stable_from, some_upto, all_between}
 use Rattle.monitorable_guard.proofs.AgreementLemmas.{nested_alike}
 use Rattle.monitorable_guard.proofs.KnownValues.{From, known}
-use Rattle.monitorable_guard.proofs.ListedValues.{listed_all, rows_over, replaced_at, chosen, chosen_inside}
-use Rattle.monitorable_guard.proofs.ListedValues.{chosen_stays, each_inside, some_value}
+use Rattle.monitorable_guard.proofs.ListedValues.{listed_all, rows_over, replaced_at, chosen, chosen_inside, chosen_stays, each_inside, some_value}
 
 -- ---- what asks for one position alone
 

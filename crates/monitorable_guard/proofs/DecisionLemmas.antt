@@ -1,8 +1,6 @@
 -- From what a decision's parts ask to what it asks.
-use Rattle.monitorable_guard.proofs.Vocabulary.{◌≡◌, ℕ, Bool, true, [], None, Contains, IsTrue, ◌↔◌}
-use Rattle.monitorable_guard.proofs.Vocabulary.{Result, Ok, Err, IfOk, Box, refl, ⊎_elim, inl, inr, VarId, Formula}
-use Rattle.monitorable_guard.proofs.Vocabulary.{tree_of, Global, none_in_nil, Safe, FreeWithin, BoundOrFreeIn}
-use Rattle.monitorable_guard.proofs.Vocabulary.{NoneBound, denial}
+use Rattle.monitorable_guard.proofs.Vocabulary.{◌≡◌, ℕ, Bool, true, [], None, Contains, IsTrue, ◌↔◌, Result, Ok, Err, IfOk, Box, refl, ⊎_elim, inl, inr, VarId, Formula, tree_of, Global, none_in_nil}
+use Rattle.monitorable_guard.proofs.Vocabulary.{Safe, FreeWithin, BoundOrFreeIn, NoneBound, denial}
 use Rattle.monitorable_guard.proofs.SafetyLemmas.{Same, safe_same}
 use Rattle.enf_formula.specs.declared.formulas.Formula as stored
 

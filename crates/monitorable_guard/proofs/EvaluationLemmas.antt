@@ -1,25 +1,18 @@
 -- The valuations that answer a formula, from those that answer its parts.
-use Rattle.monitorable_guard.proofs.Vocabulary.{◌≡◌, ℕ, Bool, true, false, not, ◌⊎◌, inl, inr, ⊎_elim}
-use Rattle.monitorable_guard.proofs.Vocabulary.{List, [], ◌∷◌, ◌++◌, length, map, Option, None, Some}
-use Rattle.monitorable_guard.proofs.Vocabulary.{unwrap_or, pos, IsSome, IsTrue, Contains, ◌↔◌, refl, sym, ap}
-use Rattle.monitorable_guard.proofs.Vocabulary.{subst, ◌∙◌, false≢true, length-map, none-some, Valuation}
-use Rattle.monitorable_guard.proofs.Vocabulary.{value_at, value_of_term, values_of_terms, onto_values, with_values}
-use Rattle.monitorable_guard.proofs.Vocabulary.{valuation_of, Event, NameId, Term, Var, VarId, Value, Num, Formula}
-use Rattle.monitorable_guard.proofs.Vocabulary.{Atom, Equal, Not, And, Or, Implies, Exists, Forall, IsFree}
-use Rattle.monitorable_guard.proofs.Vocabulary.{IsEventAmong, AreSameValues, Classically, first_or_later, none_in_nil}
-use Rattle.monitorable_guard.proofs.Vocabulary.{some_or_none, among_or_not, value_at-bound, value_at-other}
-use Rattle.monitorable_guard.proofs.Vocabulary.{value_at-with_outside, cell_some, table_row-length, contains_valuation}
-use Rattle.monitorable_guard.proofs.Vocabulary.{agrees_itself, same_or_other, filled_keeps, filled_outside}
-use Rattle.monitorable_guard.proofs.Vocabulary.{filled_unbound, filled_from_row, Relation, IsTable, HasValuation}
-use Rattle.monitorable_guard.proofs.Vocabulary.{AgreesWithRow, IsBoundSame, IsSolution, AreBoundOrFree, AreOpenUnder}
-use Rattle.monitorable_guard.proofs.Vocabulary.{HasAnswers, IsGuardAnswer, IsBoundBy, IsEquated, IsFromRow}
-use Rattle.monitorable_guard.proofs.Vocabulary.{IsBoundOrFree, IsMatchAmong, Extends, FirstGivesUnder, FitOperators}
-use Rattle.monitorable_guard.proofs.Vocabulary.{HoldsNow, FirstHas, outermost, tables_beyond, FreeWithin, FreeUnder}
-use Rattle.monitorable_guard.proofs.Vocabulary.{FreeAlike}
+use Rattle.monitorable_guard.proofs.Vocabulary.{◌≡◌, ℕ, Bool, true, false, not, ◌⊎◌, inl, inr, ⊎_elim, List, [], ◌∷◌, ◌++◌, length, map, Option, None, Some, unwrap_or, pos, IsSome, IsTrue, Contains}
+use Rattle.monitorable_guard.proofs.Vocabulary.{◌↔◌, refl, sym, ap, subst, ◌∙◌, false≢true, length-map, none-some, Valuation, value_at, value_of_term, values_of_terms, onto_values, with_values}
+use Rattle.monitorable_guard.proofs.Vocabulary.{valuation_of, Event, NameId, Term, Var, VarId, Value, Num, Formula, Atom, Equal, Not, And, Or, Implies, Exists, Forall, IsFree, IsEventAmong}
+use Rattle.monitorable_guard.proofs.Vocabulary.{AreSameValues, Classically, first_or_later, none_in_nil, some_or_none, among_or_not, value_at-bound, value_at-other, value_at-with_outside, cell_some}
+use Rattle.monitorable_guard.proofs.Vocabulary.{table_row-length, contains_valuation, agrees_itself, same_or_other, filled_keeps, filled_outside, filled_unbound, filled_from_row, Relation, IsTable}
+use Rattle.monitorable_guard.proofs.Vocabulary.{HasValuation, AgreesWithRow, IsBoundSame, IsSolution, AreBoundOrFree, AreOpenUnder, HasAnswers, IsGuardAnswer, IsBoundBy, IsEquated, IsFromRow}
+use Rattle.monitorable_guard.proofs.Vocabulary.{IsBoundOrFree, IsMatchAmong, Extends, FirstGivesUnder, FitOperators, HoldsNow, FirstHas, outermost, tables_beyond, FreeWithin, FreeUnder, FreeAlike}
+use Rattle.monitorable_guard.proofs.Vocabulary.{values_listed}
 use Rattle.monitorable_guard.proofs.AgreementLemmas.{now_agrees, has_agrees, nested_alike}
 use Rattle.monitorable_guard.proofs.PartLemmas.{BindsMore}
 use Rattle.monitorable_guard.proofs.RowsLemmas.{SomeOf}
 use Rattle.monitorable_guard.proofs.PresentLemmas.{bound_with}
+use Rattle.monitorable_guard.proofs.EventLemmas.{begins_under}
+use Rattle.monitorable_guard.specs.machine.EventOrder.{BeginAsKnown}
 use Rattle.std.specs.FinMap as finite
 use Rattle.valuations.specs.machine.Tables as tabled
 
@@ -143,7 +136,8 @@ same_bound (Some a) (Some b) same = (refl, refl)
 
 module _ (events : List Event) where
   pub atom_to : (tables : List Relation) (v : Valuation) (place : ℕ) (name : NameId) (terms : List Term) (named : List Event)
-      → ((event : Event) → Contains named event ↔ (Contains events event × (event.name ≡ name))) → (columns : List VarId) (w : Valuation) → IsMatchAmong named terms v columns w
+      → ((event : Event) → Contains named event ↔ (Contains events event × (event.name ≡ name) × BeginAsKnown (map (value_of_term v) terms) event.args))
+      → (columns : List VarId) (w : Valuation) → IsMatchAmong named terms v columns w
       → IsGuardAnswer events tables v (Atom place name terms) columns w
   atom_to tables v place name terms named are columns w some =
       let event = some.0 in
@@ -159,13 +153,17 @@ module _ (events : List Event) where
       )
 
   pub atom_from : (tables : List Relation) (v : Valuation) (place : ℕ) (name : NameId) (terms : List Term) (named : List Event)
-      → ((event : Event) → Contains named event ↔ (Contains events event × (event.name ≡ name))) → (columns : List VarId) (w : Valuation)
-      → IsGuardAnswer events tables v (Atom place name terms) columns w → IsMatchAmong named terms v columns w
+      → ((event : Event) → Contains named event ↔ (Contains events event × (event.name ≡ name) × BeginAsKnown (map (value_of_term v) terms) event.args))
+      → (columns : List VarId) (w : Valuation) → IsGuardAnswer events tables v (Atom place name terms) columns w → IsMatchAmong named terms v columns w
   atom_from tables v place name terms named are columns w some = by (values_of_terms some.0 terms) refl some.1.holds
     where
       by : (got : Option (List Value)) → values_of_terms some.0 terms ≡ got → IsEventAmong events name got → IsMatchAmong named terms v columns w
       by None is holds = absurd holds
-      by (Some args) is holds = (record { name = name; args = args }, (are (record { name = name; args = args })).1 (holds, refl), (some.0, some.1.extends, is, some.2))
+      by (Some args) is holds = (
+        record { name = name; args = args },
+        (are (record { name = name; args = args })).1 (holds, refl, begins_under v some.0 some.1.extends terms args (values_listed some.0 terms args is)),
+        (some.0, some.1.extends, is, some.2),
+      )
 
   pub equal_to : (tables : List Relation) (v : Valuation) (place : ℕ) (s t : Term) (columns : List VarId) (w : Valuation) → IsEquated s t v columns w
       → IsGuardAnswer events tables v (Equal place s t) columns w

@@ -1,15 +1,13 @@
 -- The order of events, and the events that a search finds.
-use Rattle.monitorable_guard.proofs.Vocabulary.{◌+◌, get_or, ◌≡◌, ℕ, false, List, map, Option, None, Some}
-use Rattle.monitorable_guard.proofs.Vocabulary.{Result, IsTrue, is_ok, length, Contains, ◌↔◌, refl, sym, ap}
-use Rattle.monitorable_guard.proofs.Vocabulary.{subst, ◌∙◌, Bor, IsTotalOrder, nat_cmp_total, on_total}
-use Rattle.monitorable_guard.proofs.Vocabulary.{then_total, IsAntisymmetric, nat_cmp-IsAntisymmetric, IsPermutation}
-use Rattle.monitorable_guard.proofs.Vocabulary.{IsSortedByKey, IsSearchInRange, IsBinarySearchResult, nat_cmp}
-use Rattle.monitorable_guard.proofs.Vocabulary.{ordering_then, is_lt, Ordering, Greater, IsPermutation-map}
-use Rattle.monitorable_guard.proofs.Vocabulary.{IsPermutation-sym, Contains-permutation, Valuation, value_of_term}
-use Rattle.monitorable_guard.proofs.Vocabulary.{values_of_terms, Event, NameId, Term, Value, listed_values}
-use Rattle.monitorable_guard.proofs.Vocabulary.{values_listed, same_name, IsEventAmong, key_cmp, row_cmp_total}
-use Rattle.monitorable_guard.proofs.Vocabulary.{key_cmp_total, key_cmp_exact, same_order, found_tells, Contains-map}
-use Rattle.monitorable_guard.proofs.Vocabulary.{Contains-from_map, name_of, key_of, event_cmp, shown_events, IsByName}
+use Rattle.monitorable_guard.proofs.Vocabulary.{◌+◌, ◌-◌, ◌≤◌, get_or, ◌≡◌, ℕ, zero, suc, true, false, List, [], ◌∷◌, take, drop, map, Option, None, Some, arith, take_rest, same_Some}
+use Rattle.monitorable_guard.proofs.Vocabulary.{IsPartitionPoint, is_le, tied_between, Extends, Result, IsTrue, is_ok, length, Contains, ◌↔◌, refl, sym, ap, subst, ◌∙◌, Bor, IsTotalOrder}
+use Rattle.monitorable_guard.proofs.Vocabulary.{nat_cmp_total, on_total, then_total, IsAntisymmetric, nat_cmp-IsAntisymmetric, IsPermutation, IsSortedByKey, IsSearchInRange, IsBinarySearchResult}
+use Rattle.monitorable_guard.proofs.Vocabulary.{nat_cmp, ordering_then, is_lt, Ordering, Greater, IsPermutation-map, IsPermutation-sym, Contains-permutation, Valuation, value_of_term, values_of_terms}
+use Rattle.monitorable_guard.proofs.Vocabulary.{Event, NameId, Term, Value, listed_values, values_listed, same_name, IsEventAmong, key_cmp, row_cmp_total, key_cmp_total, key_cmp_exact, same_order}
+use Rattle.monitorable_guard.proofs.Vocabulary.{found_tells, Contains-map, Contains-from_map, name_of, key_of, event_cmp, shown_events, IsByName}
+use Rattle.monitorable_guard.specs.machine.EventOrder.{BeginAsKnown, leading_known}
+use Rattle.enf_data.specs.meaning.Values.{value_cmp, row_cmp}
+use Rattle.monitorable_guard.proofs.MatchLemmas.{value_of-extends}
 use Rattle.std.specs.declared.cmp.Ordering.TheVariants.{Less, Equal}
 
 pub event_cmp_total : IsTotalOrder event_cmp
@@ -32,10 +30,10 @@ search_key event = (event.now.name.0, map Some event.now.args)
 abbrev pub search_cmp : ℕ × List (Option Value) → ℕ × List (Option Value) → Ordering
 search_cmp a b = ordering_then (nat_cmp a.0 b.0) (key_cmp a.1 b.1)
 
-search_cmp_total : IsTotalOrder search_cmp
+pub search_cmp_total : IsTotalOrder search_cmp
 search_cmp_total = then_total (on_total (λ k. k.0) nat_cmp_total) (on_total (λ k. k.1) key_cmp_total)
 
-search_cmp_exact : IsAntisymmetric search_cmp
+pub search_cmp_exact : IsAntisymmetric search_cmp
 search_cmp_exact a b e = both (nat_cmp a.0 b.0) refl e
   where
     both : (r : Ordering) → nat_cmp a.0 b.0 ≡ r → ordering_then r (key_cmp a.1 b.1) ≡ Equal → a ≡ b
@@ -85,3 +83,79 @@ sorted_by_name events given sorted all permuted order =
         λ there. Contains-permutation (shown_events given) (shown_events sorted) event moved (subst (λ l. Contains l event) (sym all) there),
       );
     }
+
+-- ---- events that begin with values
+
+-- the number of the event's name, and so many of the arguments
+abbrev pub beginning_key : ℕ → Bor Event → ℕ × List (Option Value)
+beginning_key count event = (event.now.name.0, map Some (take count event.now.args))
+
+then_falls : (r s t : Ordering) → (is_lt s ≡ false → is_lt t ≡ false) → is_lt (ordering_then r s) ≡ false → is_lt (ordering_then r t) ≡ false
+then_falls Less s t below e = e
+then_falls Equal s t below e = below e
+then_falls Greater s t below e = refl
+
+-- what does not fall does not by its first items
+beginnings_fall : (count : ℕ) (a b : List Value) → is_lt (row_cmp a b) ≡ false → is_lt (row_cmp (take count a) (take count b)) ≡ false
+beginnings_fall zero a b e = refl
+beginnings_fall (suc count) [] [] e = e
+beginnings_fall (suc count) [] (y ∷ b) e = e
+beginnings_fall (suc count) (x ∷ a) [] e = e
+beginnings_fall (suc count) (x ∷ a) (y ∷ b) e = then_falls (value_cmp x y) (row_cmp a b) (row_cmp (take count a) (take count b)) (beginnings_fall count a b) e
+
+pub by_beginning : (count : ℕ) (listed : List (Bor Event)) → IsSortedByKey key_of event_cmp listed → IsSortedByKey (beginning_key count) search_cmp listed
+by_beginning count listed order k d low within =
+    let a = (get_or listed (k + 1) d).now in
+    let b = (get_or listed k d).now in
+    then_falls (nat_cmp a.name.0 b.name.0) (row_cmp a.args b.args) (key_cmp (map Some (take count a.args)) (map Some (take count b.args)))
+    (λ e. ap is_lt (same_order (take count a.args) (take count b.args)) ∙ beginnings_fall count a.args b.args e)
+    (order k d low within)
+
+-- the arguments begin as known just where so many of them are the known ones
+pub begins : (known : List (Option Value)) (args : List Value) → BeginAsKnown known args ↔ (map Some (take (leading_known known) args) ≡ take (leading_known known) known)
+begins [] args = (λ _. refl, λ _. tt)
+begins (None ∷ known) args = (λ _. refl, λ _. tt)
+begins (Some value ∷ known) [] = (λ none. absurd none, λ same. absurd (cc))
+begins (Some value ∷ known) (arg ∷ args) = (
+  λ both. λ i. Some (both.0 i) ∷ (begins known args).0 both.1 i,
+  λ same. (
+    same_Some arg value (ap (λ l. get_or l 0 (Some arg)) same),
+    (begins known args).1 (ap (λ l. drop 1 l) same),
+  ),
+)
+
+pub leading_within : (known : List (Option Value)) → leading_known known ≤ length known
+leading_within [] = omega arith
+leading_within (None ∷ known) = omega arith
+leading_within (Some value ∷ known) = let rest = leading_within known in omega (arith, rest)
+
+-- terms that have these values under what goes on from v have no others under v
+pub begins_under : (v u : Valuation) → Extends v u → (terms : List Term) (args : List Value) → map Some args ≡ map (value_of_term u) terms → BeginAsKnown (map (value_of_term v) terms) args
+begins_under v u ext [] args is = tt
+begins_under v u ext (t ∷ terms) [] is = absurd (cc)
+begins_under v u ext (t ∷ terms) (arg ∷ args) is = by (value_of_term v t) refl (begins_under v u ext terms args (ap (λ l. drop 1 l) is))
+  where
+    by : (o : Option Value) → value_of_term v t ≡ o → BeginAsKnown (map (value_of_term v) terms) args → BeginAsKnown (o ∷ map (value_of_term v) terms) (arg ∷ args)
+    by None at rest = tt
+    by (Some value) at rest = (same_Some arg value (ap (λ l. get_or l 0 (Some arg)) is ∙ value_of-extends v u t value ext at), rest)
+
+-- ---- the events between two places of a search
+
+module _ {K : Type 0} {R : K → K → Ordering} (o : IsTotalOrder R) (exact : IsAntisymmetric R) (key : Bor Event → K) (order : List (Bor Event)) (wanted : K)
+    (sorted : IsSortedByKey key R order) (from count : ℕ)
+    (first : IsPartitionPoint (λ y. is_lt (R (key y) wanted) ≡ true) (λ y. is_lt (R (key y) wanted) ≡ false) order from)
+    (last : IsPartitionPoint (λ y. is_le (R (key y) wanted) ≡ true) (λ y. is_le (R (key y) wanted) ≡ false) (take (length order - from) (drop from order)) count) where
+  pub tied_events : (event : Event) → Contains (shown_events (take count (take (length order - from) (drop from order)))) event
+      ↔ ((x : Bor Event) × Contains order x × (key x ≡ wanted) × (x.now ≡ event))
+  tied_events event =
+      let behind : take (length order - from) (drop from order) ≡ drop from order = take_rest order from in
+      let tied = tied_between o exact key order wanted sorted from count first
+      (subst (λ l. IsPartitionPoint (λ y. is_le (R (key y) wanted) ≡ true) (λ y. is_le (R (key y) wanted) ≡ false) l count) behind last) in
+      let same : take count (take (length order - from) (drop from order)) ≡ take count (drop from order) = ap (take count) behind in (
+        λ there.
+            let found = Contains-from_map (λ e. e.now) (take count (drop from order)) event (subst (λ l. Contains (shown_events l) event) same there) in
+            let both = (tied found.0).0 found.1 in
+            (found.0, both.0, both.1, found.2),
+        λ some. subst (λ l. Contains (shown_events l) event) (sym same) (subst (Contains (shown_events (take count (drop from order)))) some.3
+            (Contains-map (λ e. e.now) (take count (drop from order)) some.0 ((tied some.0).1 (some.1, some.2)))),
+      )

@@ -1,13 +1,8 @@
 -- Rows that are the arguments of events.
-use Rattle.monitorable_guard.proofs.Vocabulary.{◌≡◌, ℕ, suc, ◌+◌, ◌<◌, true, List, [], ◌∷◌}
-use Rattle.monitorable_guard.proofs.Vocabulary.{length, get_or, map, All, Contains, Option, None, Some, ◌↔◌, refl}
-use Rattle.monitorable_guard.proofs.Vocabulary.{sym, ap, subst, ◌∙◌, inl, ⊎_elim, arith, IfSome, Bor}
-use Rattle.monitorable_guard.proofs.Vocabulary.{IsTotalOrder, AllByRecursion, is_lt, Ordering, All-contains, same_Some}
-use Rattle.monitorable_guard.proofs.Vocabulary.{none-some, HasNoRepeats, row_cmp, Valuation, onto_values, value_at}
-use Rattle.monitorable_guard.proofs.Vocabulary.{values_of_terms, Event, NameId, Term, Var, VarId, Value, Less_from_test}
-use Rattle.monitorable_guard.proofs.Vocabulary.{Formula, Atom, IsEventAmong, first_or_later, here, later, none_in_nil}
-use Rattle.monitorable_guard.proofs.Vocabulary.{Contains-map, Contains-from_map, row_cmp_total, cell_here, cell_later}
-use Rattle.monitorable_guard.proofs.Vocabulary.{same_or_other, Relation, HasValuation, AgreesWithRow, IsTable, row_cell}
+use Rattle.monitorable_guard.proofs.Vocabulary.{◌≡◌, ℕ, suc, ◌+◌, ◌<◌, true, List, [], ◌∷◌, length, get_or, map, All, Contains, Option, None, Some, ◌↔◌, refl, sym, ap, subst, ◌∙◌, inl, ⊎_elim, arith}
+use Rattle.monitorable_guard.proofs.Vocabulary.{IfSome, Bor, IsTotalOrder, AllByRecursion, is_lt, Ordering, All-contains, same_Some, none-some, HasNoRepeats, row_cmp, Valuation, onto_values, value_at}
+use Rattle.monitorable_guard.proofs.Vocabulary.{values_of_terms, Event, NameId, Term, Var, VarId, Value, Less_from_test, Formula, Atom, IsEventAmong, first_or_later, here, later, none_in_nil}
+use Rattle.monitorable_guard.proofs.Vocabulary.{Contains-map, Contains-from_map, row_cmp_total, cell_here, cell_later, same_or_other, Relation, HasValuation, AgreesWithRow, IsTable, row_cell}
 use Rattle.monitorable_guard.proofs.Vocabulary.{HasKnownValues, AreHoldingRows, shown_events, arguments}
 use Rattle.std.specs.List.Sorted.{IsStrictlySortedBy}
 use Rattle.std.specs.declared.cmp.Ordering.TheVariants.{Less}

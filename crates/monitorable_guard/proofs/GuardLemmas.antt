@@ -1,10 +1,7 @@
 -- What a guard's evaluation gives, from that of its formula under the bound variables.
-use Rattle.monitorable_guard.proofs.Vocabulary.{◌↔◌, Bool, IsTrue, ◌⊎◌, inl, inr, ⊎_elim, List, None}
-use Rattle.monitorable_guard.proofs.Vocabulary.{Result, Ok, Err, IfOk, Contains, refl, sym, ◌∙◌, none-some}
-use Rattle.monitorable_guard.proofs.Vocabulary.{Valuation, BindsColumns, Event, VarId, Formula, IsFree, among_or_not}
-use Rattle.monitorable_guard.proofs.Vocabulary.{IsPartOfValuation, Relation, AreOpenUnder, CanAskFormula, HasAnswers}
-use Rattle.monitorable_guard.proofs.Vocabulary.{IsBoundBy, IsBoundOrFree, AreOpen, CanEvaluate, FitOperators}
-use Rattle.monitorable_guard.proofs.Vocabulary.{AreHoldingRows, HoldsNow, outermost, FreeWithin, Safe}
+use Rattle.monitorable_guard.proofs.Vocabulary.{◌↔◌, Bool, IsTrue, ◌⊎◌, inl, inr, ⊎_elim, List, None, Result, Ok, Err, IfOk, Contains, refl, sym, ◌∙◌, none-some, Valuation, BindsColumns, Event, VarId}
+use Rattle.monitorable_guard.proofs.Vocabulary.{Formula, IsFree, among_or_not, IsPartOfValuation, Relation, AreOpenUnder, CanAskFormula, HasAnswers, IsBoundBy, IsBoundOrFree, AreOpen, CanEvaluate}
+use Rattle.monitorable_guard.proofs.Vocabulary.{FitOperators, AreHoldingRows, HoldsNow, outermost, FreeWithin, Safe}
 use Rattle.monitorable_guard.proofs.AgreementLemmas.{now_agrees}
 use Rattle.monitorable_guard.proofs.PartLemmas.{fresh_within}
 use Rattle.monitorable_guard.proofs.EvaluationLemmas.{value_from, bound_from, bound_as, same_on}

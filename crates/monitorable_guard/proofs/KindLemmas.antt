@@ -1,6 +1,5 @@
 -- The kinds of formulas that remain.
-use Rattle.monitorable_guard.proofs.Vocabulary.{◌≡◌, ℕ, ⊎_elim, List, Some, Box, refl, Global, NameId}
-use Rattle.monitorable_guard.proofs.Vocabulary.{Interval, Term, VarId, tree_of, Safe, SafeBelow, FreeWithin}
+use Rattle.monitorable_guard.proofs.Vocabulary.{◌≡◌, ℕ, ⊎_elim, List, Some, Box, refl, Global, NameId, Interval, Term, VarId, tree_of, Safe, SafeBelow, FreeWithin}
 use Rattle.monitorable_guard.proofs.SafetyLaws.{below_within, historically_within}
 use Rattle.enf_formula.specs.declared.formulas.Formula as stored
 

@@ -1,20 +1,11 @@
 -- The values under which a safe formula holds at a step come from its events and from the tables.
-use Rattle.monitorable_guard.proofs.Vocabulary.{◌≡◌, ℕ, ◌⊎◌, inl, inr, ⊎_elim, List, [], ◌∷◌}
-use Rattle.monitorable_guard.proofs.Vocabulary.{length, drop, Some, Result, Ok, Err, IfOk, ◌+◌, Contains, refl, sym}
-use Rattle.monitorable_guard.proofs.Vocabulary.{ap, subst, ◌∙◌, arith, length-drop, get_or-drop, same_Some}
-use Rattle.monitorable_guard.proofs.Vocabulary.{none-some, HasNoRepeats, Valuation, value_at, value_of_term}
-use Rattle.monitorable_guard.proofs.Vocabulary.{values_of_terms, with_values, BindsColumns, valuation_of, Event, Term}
-use Rattle.monitorable_guard.proofs.Vocabulary.{Var, Const, VarId, Value, Formula, True, False, Atom, Equal, Less}
-use Rattle.monitorable_guard.proofs.Vocabulary.{AtMost, Not, And, Or, Implies, Exists, Forall, Prev, Next, Once}
-use Rattle.monitorable_guard.proofs.Vocabulary.{Historically, Since, Eventually, Always, Until, IsFree, Classically}
-use Rattle.monitorable_guard.proofs.Vocabulary.{AreSameValues-sym, here, later, first_or_later, none_in_nil}
-use Rattle.monitorable_guard.proofs.Vocabulary.{some_or_none, some_or_not, among_or_not, value_at-with_outside}
-use Rattle.monitorable_guard.proofs.Vocabulary.{cell_here, cell_later, table_row-length, contains_valuation}
-use Rattle.monitorable_guard.proofs.Vocabulary.{agrees_itself, same_value_or_not, same_at_or_not, same_or_other}
-use Rattle.monitorable_guard.proofs.Vocabulary.{IsPartOfValuation, Relation, IsTable, row_cell, AreOpenUnder}
-use Rattle.monitorable_guard.proofs.Vocabulary.{HasAnswers, FitOperators, HasKnownValues, IsKnownNow, IsTabled, Extends}
-use Rattle.monitorable_guard.proofs.Vocabulary.{HoldsNow, FirstHas, outermost, tables_beyond, Safe, BoundOrFreeIn}
-use Rattle.monitorable_guard.proofs.Vocabulary.{BindsFresh, IsArgument, IsFormulaConstant, IsBoundValue}
+use Rattle.monitorable_guard.proofs.Vocabulary.{◌≡◌, ℕ, ◌⊎◌, inl, inr, ⊎_elim, List, [], ◌∷◌, length, drop, Some, Result, Ok, Err, IfOk, ◌+◌, Contains, refl, sym, ap, subst, ◌∙◌, arith, length-drop}
+use Rattle.monitorable_guard.proofs.Vocabulary.{get_or-drop, same_Some, none-some, HasNoRepeats, Valuation, value_at, value_of_term, values_of_terms, with_values, BindsColumns, valuation_of, Event}
+use Rattle.monitorable_guard.proofs.Vocabulary.{Term, Var, Const, VarId, Value, Formula, True, False, Atom, Equal, Less, AtMost, Not, And, Or, Implies, Exists, Forall, Prev, Next, Once, Historically}
+use Rattle.monitorable_guard.proofs.Vocabulary.{Since, Eventually, Always, Until, IsFree, Classically, AreSameValues-sym, here, later, first_or_later, none_in_nil, some_or_none, some_or_not}
+use Rattle.monitorable_guard.proofs.Vocabulary.{among_or_not, value_at-with_outside, cell_here, cell_later, table_row-length, contains_valuation, agrees_itself, same_value_or_not, same_at_or_not}
+use Rattle.monitorable_guard.proofs.Vocabulary.{same_or_other, IsPartOfValuation, Relation, IsTable, row_cell, AreOpenUnder, HasAnswers, FitOperators, HasKnownValues, IsKnownNow, IsTabled, Extends}
+use Rattle.monitorable_guard.proofs.Vocabulary.{HoldsNow, FirstHas, outermost, tables_beyond, Safe, BoundOrFreeIn, BindsFresh, IsArgument, IsFormulaConstant, IsBoundValue}
 use Rattle.monitorable_guard.proofs.AgreementLemmas.{fit_front, fit_back}
 use Rattle.monitorable_guard.proofs.Decided.{Decided, contains_decided, decided_as, decided_either, stable_from}
 use Rattle.monitorable_guard.proofs.EvaluationLemmas.{not_bound}

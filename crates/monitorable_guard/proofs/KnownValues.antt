@@ -1,15 +1,9 @@
 -- The values under which a safe formula holds come from known places.
-use Rattle.monitorable_guard.proofs.Vocabulary.{◌≡◌, ℕ, ◌-◌, ◌⊎◌, inl, inr, ⊎_elim, List, []}
-use Rattle.monitorable_guard.proofs.Vocabulary.{◌∷◌, Option, None, Some, Contains, refl, sym, ap, subst}
-use Rattle.monitorable_guard.proofs.Vocabulary.{◌∙◌, arith, same_Some, none-some, step_at, Valuation, value_at}
-use Rattle.monitorable_guard.proofs.Vocabulary.{value_of_term, values_of_terms, onto_values, with_values, Event, NameId}
-use Rattle.monitorable_guard.proofs.Vocabulary.{Step, Term, Var, Const, VarId, Value, Formula, True, False, Atom, Equal}
-use Rattle.monitorable_guard.proofs.Vocabulary.{Less, AtMost, Not, And, Or, Implies, Exists, Forall, Prev, Next, Once}
-use Rattle.monitorable_guard.proofs.Vocabulary.{Historically, Since, Eventually, Always, Until, IsFree, Sat}
-use Rattle.monitorable_guard.proofs.Vocabulary.{IsEventAmong, AreSameValues, Classically, AreSameValues-some}
-use Rattle.monitorable_guard.proofs.Vocabulary.{AreSameValues-sym, later, first_or_later, none_in_nil, among_or_not}
-use Rattle.monitorable_guard.proofs.Vocabulary.{value_at-with_outside, Safe, BoundOrFreeIn, NoneBound, Assigns}
-use Rattle.monitorable_guard.proofs.Vocabulary.{BindsFresh, IsArgument, IsArgumentUpTo, IsFormulaConstant}
+use Rattle.monitorable_guard.proofs.Vocabulary.{◌≡◌, ℕ, ◌-◌, ◌⊎◌, inl, inr, ⊎_elim, List, [], ◌∷◌, Option, None, Some, Contains, refl, sym, ap, subst, ◌∙◌, arith, same_Some, none-some, step_at}
+use Rattle.monitorable_guard.proofs.Vocabulary.{Valuation, value_at, value_of_term, values_of_terms, onto_values, with_values, Event, NameId, Step, Term, Var, Const, VarId, Value, Formula, True}
+use Rattle.monitorable_guard.proofs.Vocabulary.{False, Atom, Equal, Less, AtMost, Not, And, Or, Implies, Exists, Forall, Prev, Next, Once, Historically, Since, Eventually, Always, Until, IsFree, Sat}
+use Rattle.monitorable_guard.proofs.Vocabulary.{IsEventAmong, AreSameValues, Classically, AreSameValues-some, AreSameValues-sym, later, first_or_later, none_in_nil, among_or_not}
+use Rattle.monitorable_guard.proofs.Vocabulary.{value_at-with_outside, Safe, BoundOrFreeIn, NoneBound, Assigns, BindsFresh, IsArgument, IsArgumentUpTo, IsFormulaConstant}
 use Rattle.monitorable_guard.proofs.SafetyLaws.{below_within, historically_within}
 
 -- where a condition that holds wherever its denial is false is shown from one of two cases

@@ -1,10 +1,7 @@
 -- What goes on from a valuation and gives terms their values, by the least one that does.
-use Rattle.monitorable_guard.proofs.Vocabulary.{◌≡◌, ◌⊎◌, ⊎_elim, List, Option, None, Some, IsSome}
-use Rattle.monitorable_guard.proofs.Vocabulary.{Contains, refl, sym, ap, subst, ◌∙◌, same_Some, none-some}
-use Rattle.monitorable_guard.proofs.Vocabulary.{MatchOption-at_some, Valuation, value_of_term, Term, Var, VarId, Value}
-use Rattle.monitorable_guard.proofs.Vocabulary.{AreSameValues-some, AreSameValues-sym, AreSameValues, Classically}
-use Rattle.monitorable_guard.proofs.Vocabulary.{AgreeOnColumns, IsBoundBy, IsEquated, IsMatchOf, IsValued, IsLeastFor}
-use Rattle.monitorable_guard.proofs.Vocabulary.{IsLeastMatch}
+use Rattle.monitorable_guard.proofs.Vocabulary.{◌≡◌, ◌⊎◌, ⊎_elim, List, Option, None, Some, IsSome, Contains, refl, sym, ap, subst, ◌∙◌, same_Some, none-some, MatchOption-at_some, Valuation}
+use Rattle.monitorable_guard.proofs.Vocabulary.{value_of_term, Term, Var, VarId, Value, AreSameValues-some, AreSameValues-sym, AreSameValues, Classically, AgreeOnColumns, IsBoundBy, IsEquated}
+use Rattle.monitorable_guard.proofs.Vocabulary.{IsMatchOf, IsValued, IsLeastFor, IsLeastMatch}
 use Rattle.std.specs.Option.{IfSome}
 use Rattle.monitorable_guard.proofs.EvaluationLemmas.{bound_on, same_on, terms_bound}
 use Rattle.monitorable_guard.proofs.MatchLemmas.{value_of-extends}

@@ -1,16 +1,9 @@
 -- Finitely many values: those that a safe formula's rows can have, and the rows over them.
-use Rattle.monitorable_guard.proofs.Vocabulary.{◌≡◌, ℕ, zero, suc, ◌<◌, ◌≤◌, ◌⊎◌, inl, inr}
-use Rattle.monitorable_guard.proofs.Vocabulary.{⊎_elim, pos, Bool, true, false, cond, List, [], ◌∷◌, ◌++◌}
-use Rattle.monitorable_guard.proofs.Vocabulary.{length, map, Some, Contains, refl, sym, ap, subst, ◌∙◌, arith}
-use Rattle.monitorable_guard.proofs.Vocabulary.{cases_lt, Contains-append_left, Contains-append_right, same_Some}
-use Rattle.monitorable_guard.proofs.Vocabulary.{none-some, AllByRecursion, eq_by_cmp, step_at, Valuation, value_at}
-use Rattle.monitorable_guard.proofs.Vocabulary.{with_values, variable_cmp, Event, Step, Term, Var, Const, VarId, Value}
-use Rattle.monitorable_guard.proofs.Vocabulary.{Num, Formula, True, False, Atom, Equal, Less, AtMost, Not, And, Or}
-use Rattle.monitorable_guard.proofs.Vocabulary.{Implies, Exists, Forall, Prev, Next, Once, Historically, Since}
-use Rattle.monitorable_guard.proofs.Vocabulary.{Eventually, Always, Until, here, later, first_or_later, none_in_nil}
-use Rattle.monitorable_guard.proofs.Vocabulary.{Contains-map, among_or_not, value_at-bound, value_at-other}
-use Rattle.monitorable_guard.proofs.Vocabulary.{value_at-with_outside, same_or_other, IsArgument, IsArgumentUpTo}
-use Rattle.monitorable_guard.proofs.Vocabulary.{IsFormulaConstant}
+use Rattle.monitorable_guard.proofs.Vocabulary.{◌≡◌, ℕ, zero, suc, ◌<◌, ◌≤◌, ◌⊎◌, inl, inr, ⊎_elim, pos, Bool, true, false, cond, List, [], ◌∷◌, ◌++◌, length, map, Some, Contains, refl, sym, ap}
+use Rattle.monitorable_guard.proofs.Vocabulary.{subst, ◌∙◌, arith, cases_lt, Contains-append_left, Contains-append_right, same_Some, none-some, AllByRecursion, eq_by_cmp, step_at, Valuation, value_at}
+use Rattle.monitorable_guard.proofs.Vocabulary.{with_values, variable_cmp, Event, Step, Term, Var, Const, VarId, Value, Num, Formula, True, False, Atom, Equal, Less, AtMost, Not, And, Or, Implies}
+use Rattle.monitorable_guard.proofs.Vocabulary.{Exists, Forall, Prev, Next, Once, Historically, Since, Eventually, Always, Until, here, later, first_or_later, none_in_nil, Contains-map, among_or_not}
+use Rattle.monitorable_guard.proofs.Vocabulary.{value_at-bound, value_at-other, value_at-with_outside, same_or_other, IsArgument, IsArgumentUpTo, IsFormulaConstant}
 use Rattle.monitorable_guard.proofs.Decided.{Decided}
 use Rattle.std.specs.FinMap as finite
 

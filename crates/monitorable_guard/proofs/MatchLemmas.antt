@@ -1,10 +1,7 @@
 -- Least matches, one term after another.
-use Rattle.monitorable_guard.proofs.Vocabulary.{◌≡◌, get_or, drop, ⊎_elim, List, [], ◌∷◌, ◌<◌, length}
-use Rattle.monitorable_guard.proofs.Vocabulary.{Result, Ok, Err, IfOk, Option, None, Some, IfNone, refl, sym, ap, subst}
-use Rattle.monitorable_guard.proofs.Vocabulary.{◌∙◌, arith, same_Some, none-some, Valuation, value_at}
-use Rattle.monitorable_guard.proofs.Vocabulary.{value_of_term, values_of_terms, onto_values, Term, Var, Const, VarId}
-use Rattle.monitorable_guard.proofs.Vocabulary.{Value, as_many_values, same_or_other, value_at-bound, value_at-other}
-use Rattle.monitorable_guard.proofs.Vocabulary.{Extends, IsLeastFor, IsLeastMatch, HasNoMatch}
+use Rattle.monitorable_guard.proofs.Vocabulary.{◌≡◌, get_or, drop, ⊎_elim, List, [], ◌∷◌, ◌<◌, length, Result, Ok, Err, IfOk, Option, None, Some, IfNone, refl, sym, ap, subst, ◌∙◌, arith, same_Some}
+use Rattle.monitorable_guard.proofs.Vocabulary.{none-some, Valuation, value_at, value_of_term, values_of_terms, onto_values, Term, Var, Const, VarId, Value, as_many_values, same_or_other}
+use Rattle.monitorable_guard.proofs.Vocabulary.{value_at-bound, value_at-other, Extends, IsLeastFor, IsLeastMatch, HasNoMatch}
 use Rattle.std.proofs.Common.{IfSome}
 use Rattle.std.specs.FinMap as finite
 

@@ -1,15 +1,11 @@
 -- Formulas of two parts, whose second part asks the tables after those of the first.
-use Rattle.monitorable_guard.proofs.Vocabulary.{◌≡◌, ℕ, ◌+◌, Bool, ◌⊎◌, inl, inr, ⊎_elim, List}
-use Rattle.monitorable_guard.proofs.Vocabulary.{length, drop, IsTrue, Contains, ◌↔◌, sym, ap, subst, ◌∙◌}
-use Rattle.monitorable_guard.proofs.Vocabulary.{Valuation, Event, VarId, Value, Formula, And, Or, Implies, Forall}
-use Rattle.monitorable_guard.proofs.Vocabulary.{filled_from_row, Relation, IsTable, AddsRows, AreBoundOrFree}
-use Rattle.monitorable_guard.proofs.Vocabulary.{AreOpenUnder, CanAskFormula, HasAnswers, IsGuardAnswer, IsBoundBy}
+use Rattle.monitorable_guard.proofs.Vocabulary.{◌≡◌, ℕ, ◌+◌, Bool, ◌⊎◌, inl, inr, ⊎_elim, List, length, drop, IsTrue, Contains, ◌↔◌, sym, ap, subst, ◌∙◌, Valuation, Event, VarId, Value, Formula, And}
+use Rattle.monitorable_guard.proofs.Vocabulary.{Or, Implies, Forall, filled_from_row, Relation, IsTable, AddsRows, AreBoundOrFree, AreOpenUnder, CanAskFormula, HasAnswers, IsGuardAnswer, IsBoundBy}
 use Rattle.monitorable_guard.proofs.Vocabulary.{FitOperators, HoldsNow, outermost, tables_beyond, FreeWithin, FreeUnder}
 use Rattle.monitorable_guard.proofs.AgreementLemmas.{fit_front, fit_back}
 use Rattle.monitorable_guard.proofs.PartLemmas.{ask_and_right, ask_or_right, ask_each}
 use Rattle.monitorable_guard.proofs.CycleLemmas.{behind_at}
-use Rattle.monitorable_guard.proofs.EvaluationLemmas.{bound_or_not, not_bound, binds_more, both_to, both_from}
-use Rattle.monitorable_guard.proofs.EvaluationLemmas.{either_to, either_from, each_to, each_from}
+use Rattle.monitorable_guard.proofs.EvaluationLemmas.{bound_or_not, not_bound, binds_more, both_to, both_from, either_to, either_from, each_to, each_from}
 use Rattle.monitorable_guard.proofs.RowsLemmas.{adds_as, adds_both}
 
 module _ (events : List Event) (tables : List Relation) (first next : ℕ) (v : Valuation) (g h : Formula) (at : next ≡ first + length (outermost g)) where

@@ -1,11 +1,7 @@
 -- What the parts of a formula are asked under.
-use Rattle.monitorable_guard.proofs.Vocabulary.{ℕ, ◌⊎◌, inl, inr, ⊎_elim, List, ◌++◌, None, Contains}
-use Rattle.monitorable_guard.proofs.Vocabulary.{◌↔◌, Contains-append_left, Contains-append_right, Valuation}
-use Rattle.monitorable_guard.proofs.Vocabulary.{VarId, Formula, True, False, Atom, Equal, Less, AtMost, Not, And, Or}
-use Rattle.monitorable_guard.proofs.Vocabulary.{Implies, Exists, Forall, Prev, Next, Once, Historically, Since}
-use Rattle.monitorable_guard.proofs.Vocabulary.{Eventually, Always, Until, among_or_not, Contains-append, Relation}
-use Rattle.monitorable_guard.proofs.Vocabulary.{IsBoundBy, IsBoundOrFree, CanAskFormula, outermost, tables_beyond}
-use Rattle.monitorable_guard.proofs.Vocabulary.{BindsFresh, FreeWithin, BoundOrFreeIn}
+use Rattle.monitorable_guard.proofs.Vocabulary.{ℕ, ◌⊎◌, inl, inr, ⊎_elim, List, ◌++◌, None, Contains, ◌↔◌, Contains-append_left, Contains-append_right, Valuation, VarId, Formula, True, False, Atom}
+use Rattle.monitorable_guard.proofs.Vocabulary.{Equal, Less, AtMost, Not, And, Or, Implies, Exists, Forall, Prev, Next, Once, Historically, Since, Eventually, Always, Until, among_or_not}
+use Rattle.monitorable_guard.proofs.Vocabulary.{Contains-append, Relation, IsBoundBy, IsBoundOrFree, CanAskFormula, outermost, tables_beyond, BindsFresh, FreeWithin, BoundOrFreeIn}
 use Rattle.monitorable_guard.proofs.AgreementLemmas.{fit_front, fit_back}
 use Rattle.monitorable_guard.proofs.SafetyLemmas.{safe_same}
 

@@ -1,8 +1,6 @@
 -- The operators on the past that are told by a table of the valuations under which they hold.
-use Rattle.monitorable_guard.proofs.Vocabulary.{◌≡◌, ℕ, ◌⊎◌, ⊎_elim, List, [], ◌∷◌, Box, Contains}
-use Rattle.monitorable_guard.proofs.Vocabulary.{◌↔◌, sym, subst, Global, Event, Interval, VarId, Valuation}
-use Rattle.monitorable_guard.proofs.Vocabulary.{Formula, IsFree, tree_of, Relation, FirstGivesUnder, FitOperators}
-use Rattle.monitorable_guard.proofs.Vocabulary.{HoldsNow, FirstHas, outermost}
+use Rattle.monitorable_guard.proofs.Vocabulary.{◌≡◌, ℕ, ◌⊎◌, ⊎_elim, List, [], ◌∷◌, Box, Contains, ◌↔◌, sym, subst, Global, Event, Interval, VarId, Valuation, Formula, IsFree, tree_of, Relation}
+use Rattle.monitorable_guard.proofs.Vocabulary.{FirstGivesUnder, FitOperators, HoldsNow, FirstHas, outermost}
 use Rattle.enf_formula.specs.declared.formulas.Formula as stored
 
 -- it is a `prev`, a `once` or a `since`

@@ -1,13 +1,8 @@
 -- What holds by the tables is what is satisfied, on each trace for which the tables stand.
-use Rattle.monitorable_guard.proofs.Vocabulary.{◌≡◌, ℕ, ◌⊎◌, inl, inr, ⊎_elim, List, [], ◌∷◌}
-use Rattle.monitorable_guard.proofs.Vocabulary.{◌++◌, length, drop, IsSome, IsTrue, Contains, ◌↔◌, refl, sym}
-use Rattle.monitorable_guard.proofs.Vocabulary.{subst, arith, and_parts, false≢true, step_at, Valuation, value_at}
-use Rattle.monitorable_guard.proofs.Vocabulary.{values_of_terms, with_values, Event, Step, VarId, Value, Formula, True}
-use Rattle.monitorable_guard.proofs.Vocabulary.{False, Atom, Equal, Less, AtMost, Not, And, Or, Implies, Exists, Forall}
-use Rattle.monitorable_guard.proofs.Vocabulary.{Prev, Next, Once, Historically, Since, Eventually, Always, Until}
-use Rattle.monitorable_guard.proofs.Vocabulary.{IsFree, Sat, IsEventAmong, IsStable, is_past, first_or_later}
-use Rattle.monitorable_guard.proofs.Vocabulary.{none_in_nil, among_or_not, value_at-bound, value_at-other, Relation}
-use Rattle.monitorable_guard.proofs.Vocabulary.{HoldsNow, FirstHas, outermost, tables_beyond, TablesStandFor, Tabled}
+use Rattle.monitorable_guard.proofs.Vocabulary.{◌≡◌, ℕ, ◌⊎◌, inl, inr, ⊎_elim, List, [], ◌∷◌, ◌++◌, length, drop, IsSome, IsTrue, Contains, ◌↔◌, refl, sym, subst, arith, and_parts, false≢true}
+use Rattle.monitorable_guard.proofs.Vocabulary.{step_at, Valuation, value_at, values_of_terms, with_values, Event, Step, VarId, Value, Formula, True, False, Atom, Equal, Less, AtMost, Not, And, Or}
+use Rattle.monitorable_guard.proofs.Vocabulary.{Implies, Exists, Forall, Prev, Next, Once, Historically, Since, Eventually, Always, Until, IsFree, Sat, IsEventAmong, IsStable, is_past, first_or_later}
+use Rattle.monitorable_guard.proofs.Vocabulary.{none_in_nil, among_or_not, value_at-bound, value_at-other, Relation, HoldsNow, FirstHas, outermost, tables_beyond, TablesStandFor, Tabled}
 use Rattle.std.specs.FinMap as finite
 
 -- with values for some variables, those and the ones that had a value have one

@@ -1,11 +1,7 @@
 -- Rising lists of rows: of those of a list that pass, and of those under which a safe formula is satisfied.
-use Rattle.monitorable_guard.proofs.Vocabulary.{◌≡◌, ℕ, ◌⊎◌, inl, inr, ⊎_elim, List, [], ◌∷◌}
-use Rattle.monitorable_guard.proofs.Vocabulary.{length, None, Contains, ◌↔◌, refl, sym, ap, subst, ◌∙◌}
-use Rattle.monitorable_guard.proofs.Vocabulary.{arith, IsTotalOrder, IsAntisymmetric, AllByRecursion, ordering_reverse}
-use Rattle.monitorable_guard.proofs.Vocabulary.{Ordering, Greater, AllByRecursion-contains}
-use Rattle.monitorable_guard.proofs.Vocabulary.{AllByRecursion-from_contains, later, first_or_later, none_in_nil}
-use Rattle.monitorable_guard.proofs.Vocabulary.{Valuation, with_values, Step, VarId, Value, all_from, Formula, IsFree}
-use Rattle.monitorable_guard.proofs.Vocabulary.{Sat, FreeVariablesDecide, row_cmp_total, row_cmp_exact, same_row}
+use Rattle.monitorable_guard.proofs.Vocabulary.{◌≡◌, ℕ, ◌⊎◌, inl, inr, ⊎_elim, List, [], ◌∷◌, length, None, Contains, ◌↔◌, refl, sym, ap, subst, ◌∙◌, arith, IsTotalOrder, IsAntisymmetric}
+use Rattle.monitorable_guard.proofs.Vocabulary.{AllByRecursion, ordering_reverse, Ordering, Greater, AllByRecursion-contains, AllByRecursion-from_contains, later, first_or_later, none_in_nil}
+use Rattle.monitorable_guard.proofs.Vocabulary.{Valuation, with_values, Step, VarId, Value, all_from, Formula, IsFree, Sat, FreeVariablesDecide, row_cmp_total, row_cmp_exact, same_row}
 use Rattle.monitorable_guard.proofs.Vocabulary.{value_at-with_inside, AreRowsAt, AreTold, Safe, BindsFresh}
 use Rattle.std.specs.List.Sorted.{IsStrictlySortedBy}
 use Rattle.std.specs.declared.cmp.Ordering.TheVariants.{Less, Equal}

@@ -1,12 +1,8 @@
 -- Rows that are added, one set of valuations after another.
-use Rattle.monitorable_guard.proofs.Vocabulary.{◌≡◌, ℕ, ◌+◌, ◌<◌, ◌⊎◌, inl, inr, ⊎_elim, List}
-use Rattle.monitorable_guard.proofs.Vocabulary.{[], ◌∷◌, ◌++◌, length, get_or, take, drop, map, Some, Result}
-use Rattle.monitorable_guard.proofs.Vocabulary.{Ok, Err, OnOk, Contains, sym, ap, subst, ◌∙◌, take_more}
-use Rattle.monitorable_guard.proofs.Vocabulary.{length-map, Contains-append_left, Contains-append_right, Contains-push}
-use Rattle.monitorable_guard.proofs.Vocabulary.{Contains-push_cases, All-contains, Valuation, value_at, VarId, Value}
-use Rattle.monitorable_guard.proofs.Vocabulary.{all_from, Classically, here, first_or_later, none_in_nil}
-use Rattle.monitorable_guard.proofs.Vocabulary.{Contains-append, cell_here, cell_later, has_or_not, same_or_other}
-use Rattle.monitorable_guard.proofs.Vocabulary.{AgreesWithRow, AgreeOnColumns, row_cell, AddsRows}
+use Rattle.monitorable_guard.proofs.Vocabulary.{◌≡◌, ℕ, ◌+◌, ◌<◌, ◌⊎◌, inl, inr, ⊎_elim, List, [], ◌∷◌, ◌++◌, length, get_or, take, drop, map, Some, Result, Ok, Err, OnOk, Contains, sym, ap, subst}
+use Rattle.monitorable_guard.proofs.Vocabulary.{◌∙◌, take_more, length-map, Contains-append_left, Contains-append_right, Contains-push, Contains-push_cases, All-contains, Valuation, value_at, VarId}
+use Rattle.monitorable_guard.proofs.Vocabulary.{Value, all_from, Classically, here, first_or_later, none_in_nil, Contains-append, cell_here, cell_later, has_or_not, same_or_other, AgreesWithRow}
+use Rattle.monitorable_guard.proofs.Vocabulary.{AgreeOnColumns, row_cell, AddsRows}
 
 module _ (columns : List VarId) where
   pub adds_nothing : (rows : List (List Value)) (P : Valuation → Type 0) → ((w : Valuation) → P w → ⊥) → AddsRows columns rows rows P

@@ -1,10 +1,7 @@
 -- What can be evaluated does not look ahead, and of what is only asked whether it holds, the free variables are bound.
-use Rattle.monitorable_guard.proofs.Vocabulary.{Contains-append, Interval, VarId, Bool, true, false, ◌&&◌, IsTrue}
-use Rattle.monitorable_guard.proofs.Vocabulary.{List, ◌++◌, Option, None, Some, refl, ⊎_elim, ℕ, is_past}
-use Rattle.monitorable_guard.proofs.Vocabulary.{Formula, True, False, Atom, Equal, Less, AtMost, Not, And, Or, Implies}
-use Rattle.monitorable_guard.proofs.Vocabulary.{Exists, Forall, Prev, Next, Once, Historically, Since, Eventually}
-use Rattle.monitorable_guard.proofs.Vocabulary.{Always, Until, SafeBelow, BoundOrFreeIn, NoneBound, FreeUnder}
-use Rattle.monitorable_guard.proofs.Vocabulary.{FreeWithin, Safe}
+use Rattle.monitorable_guard.proofs.Vocabulary.{Contains-append, Interval, VarId, Bool, true, false, ◌&&◌, IsTrue, List, ◌++◌, Option, None, Some, refl, ⊎_elim, ℕ, is_past, Formula, True, False, Atom}
+use Rattle.monitorable_guard.proofs.Vocabulary.{Equal, Less, AtMost, Not, And, Or, Implies, Exists, Forall, Prev, Next, Once, Historically, Since, Eventually, Always, Until, SafeBelow, BoundOrFreeIn}
+use Rattle.monitorable_guard.proofs.Vocabulary.{NoneBound, FreeUnder, FreeWithin, Safe}
 
 both : (a b : Bool) → IsTrue a → IsTrue b → IsTrue (a && b)
 both true b first second = second

@@ -1,9 +1,7 @@
 -- Safety depends on which variables are bound alone, and what it asks of `historically`.
-use Rattle.monitorable_guard.proofs.Vocabulary.{ℕ, inl, inr, ⊎_elim, List, ◌++◌, Option, None, Some, ◌↔◌}
-use Rattle.monitorable_guard.proofs.Vocabulary.{Interval, Term, Var, Const, VarId, Formula, True, False, Atom, Equal}
-use Rattle.monitorable_guard.proofs.Vocabulary.{Less, AtMost, Not, And, Or, Implies, Exists, Forall, Prev, Next, Once}
-use Rattle.monitorable_guard.proofs.Vocabulary.{Historically, Since, Eventually, Always, Until, Safe, SafeBelow}
-use Rattle.monitorable_guard.proofs.Vocabulary.{FreeWithin, BoundOrFreeIn, NoneBound, Assigns, denial}
+use Rattle.monitorable_guard.proofs.Vocabulary.{ℕ, inl, inr, ⊎_elim, List, ◌++◌, Option, None, Some, ◌↔◌, Interval, Term, Var, Const, VarId, Formula, True, False, Atom, Equal, Less, AtMost, Not, And}
+use Rattle.monitorable_guard.proofs.Vocabulary.{Or, Implies, Exists, Forall, Prev, Next, Once, Historically, Since, Eventually, Always, Until, Safe, SafeBelow, FreeWithin, BoundOrFreeIn, NoneBound}
+use Rattle.monitorable_guard.proofs.Vocabulary.{Assigns, denial}
 
 pub historically_denial : (place : ℕ) (interval : Interval) (g : Formula) (B : VarId → Type 0) → Safe (Historically place interval g) B ↔ (FreeWithin g B × Safe (denial g) NoneBound)
 historically_denial place interval (Not p h) B = (λ s. (s.0, s.1), λ s. (s.0, s.1))

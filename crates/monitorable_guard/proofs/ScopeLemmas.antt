@@ -1,9 +1,7 @@
 -- What lists of variables say of free variables.
-use Rattle.monitorable_guard.proofs.Vocabulary.{◌≡◌, Vec, Bool, inl, inr, ⊎_elim, List, ◌++◌, All, Contains}
-use Rattle.monitorable_guard.proofs.Vocabulary.{IsTrue, ◌↔◌, Result, Ok, Err, IfOk, sym, subst, All-contains}
-use Rattle.monitorable_guard.proofs.Vocabulary.{Contains-append_left, Contains-append_right, Global, VarId, all_from}
-use Rattle.monitorable_guard.proofs.Vocabulary.{Formula, IsFree, AreFreeVariables, among_or_not, Contains-append}
-use Rattle.monitorable_guard.proofs.Vocabulary.{FreeWithin, FreeUnder, FreeAlike, BoundOrFreeIn}
+use Rattle.monitorable_guard.proofs.Vocabulary.{◌≡◌, Vec, Bool, inl, inr, ⊎_elim, List, ◌++◌, All, Contains, IsTrue, ◌↔◌, Result, Ok, Err, IfOk, sym, subst, All-contains, Contains-append_left}
+use Rattle.monitorable_guard.proofs.Vocabulary.{Contains-append_right, Global, VarId, all_from, Formula, IsFree, AreFreeVariables, among_or_not, Contains-append, FreeWithin, FreeUnder, FreeAlike}
+use Rattle.monitorable_guard.proofs.Vocabulary.{BoundOrFreeIn}
 
 pub within_decided : (f : Formula) (free these bound : List VarId) (b : Bool) → AreFreeVariables f free → these ≡ free → IsTrue b ↔ All (Contains bound) these
     → IsTrue b ↔ FreeWithin f (Contains bound)

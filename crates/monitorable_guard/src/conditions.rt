@@ -5,7 +5,7 @@ ghost use Rattle.enf_formula.specs.machine.FormulaViews.{tree_of};
 ghost use Rattle.enf_data.specs.declared.terms.VarId.{VarId as Variable};
 ghost use Rattle.monitorable_guard.specs.machine.Evaluation.{FitOperators};
 ghost use Rattle.monitorable_guard.specs.machine.PresentMeaning.{tables_beyond, outermost};
-ghost use Rattle.enf_formula.specs.meaning.FormulaShape.{BindsFresh};
+ghost use Rattle.enf_formula.specs.machine.FormulaShape.{BindsFresh};
 
 use crate::operators::operators;
 use crate::scopes::{are_same, is_in, joined};

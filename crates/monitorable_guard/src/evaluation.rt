@@ -162,8 +162,9 @@ fn gather_open<'a, P: Past>(
 {
     match formula {
         Formula::Atom(_, name, terms) => {
-            let events = present.events.named(*name);
-            gather_events(alloc, events, terms.as_slice(), &*scope, columns, out)
+            let terms = terms.as_slice();
+            let events = present.events.under(*name, terms, &*scope);
+            gather_events(alloc, events, terms, &*scope, columns, out)
         }
         Formula::Equal(_, s, t) => gather_equal(alloc, s, t, &*scope, columns, out),
         Formula::And(_, g, h) => gather_both(alloc, present, g, h, first, scope, columns, out),

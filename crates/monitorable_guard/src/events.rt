@@ -7,17 +7,19 @@ ghost use Rattle.enf_data.specs.meaning.Values.{row_cmp};
 ghost use Rattle.enf_data.specs.meaning.Valuations.{value_of_term, values_of_terms};
 ghost use Rattle.enf_data.specs.declared.events.Event.{Event as AnyEvent};
 ghost use Rattle.monitorable_guard.specs.machine.EventOrder.{HasItsEvents, IsByName, listed, name_of, shown_events};
+ghost use Rattle.monitorable_guard.specs.machine.EventOrder.{BeginAsKnown, event_cmp, key_of, leading_known};
 ghost use Rattle.valuations.specs.machine.RowParts.{key_cmp};
 
 use enf_data::event_sets::EventSet;
 use enf_data::events::{Event, NameId};
 use enf_data::memory::NoMemory;
 use enf_data::terms::Term;
+use enf_data::values::Value;
 use std::alloc::Global;
 use std::cmp::Ordering;
 use std::marker::Model;
 use valuations::Lookup;
-use valuations::arguments::compare_to_terms;
+use valuations::arguments::{compare_to_terms, value_in};
 
 /// The events of a step, which finds those of a name without a look at the others.
 #[derive(Drop)]
@@ -77,6 +79,17 @@ impl<'a> StepEvents<'a> {
             ↔ (Contains self.now event × (event.name ≡ name)) }
     {
         of_name(order_of(&self.by_name), name)
+    }
+
+    /// The events of a name whose arguments begin with the values of the terms, up to the first term that has none:
+    /// found by the order, without a look at the others.
+    pub fn under<V: Lookup>(&self, name: NameId, terms: &[Term], v: &V) -> &[&'a Event]
+        ensures { (event : AnyEvent) → Contains (shown_events result.now) event
+            ↔ (Contains self.now event × (event.name ≡ name)
+            × BeginAsKnown (map (value_of_term (V.valuation v.now)) terms.now) event.args) }
+    {
+        let count = leading(terms, v);
+        beginning_with(order_of(&self.by_name), name, &terms[..count], v)
     }
 
     /// Whether the terms are the arguments of an event of the name; it takes no memory.
@@ -174,4 +187,56 @@ fn of_name<'s, 'a>(order: &'s [&'a Event], name: NameId) -> &'s [&'a Event]
     let rest = &order[from..];
     let count = rest.partition_point(|event| event.name.0.cmp(&name.0).is_le());
     &rest[..count]
+}
+
+// How many terms have values before the first that has none.
+fn leading<V: Lookup>(terms: &[Term], v: &V) -> usize
+    ensures count { result ≡ leading_known (map (value_of_term (V.valuation v.now)) terms.now) }
+    ensures within { result ≤ length terms.now }
+{
+    for place in 0..terms.len() {
+        if value_in(&terms[place], v).is_none() {
+            return place;
+        }
+    }
+    terms.len()
+}
+
+// The order of an event, of whose arguments as many count as there are terms, and one of the name whose arguments are
+// the values of the terms.
+fn compare_beginning<V: Lookup>(event: &Event, name: NameId, terms: &[Term], v: &V) -> Ordering
+    ensures { result ≡ ordering_then (nat_cmp event.now.name.0 name.0)
+        (key_cmp (map Some (take (length terms.now) event.now.args))
+        (map (value_of_term (V.valuation v.now)) terms.now)) }
+{
+    match event.name.0.cmp(&name.0) {
+        Ordering::Equal => compare_to_terms(first_args(event, terms.len()), terms, v),
+        apart => apart,
+    }
+}
+
+// So many arguments of an event, or all where there are fewer.
+fn first_args(event: &Event, count: usize) -> &[Value]
+    ensures { result.now ≡ take count event.now.args }
+{
+    let args = event.args.as_slice();
+    &args[..count.min(args.len())]
+}
+
+// Those of the events in order that have the name and whose arguments begin with the values of the terms.
+fn beginning_with<'s, 'a, V: Lookup>(
+    order: &'s [&'a Event],
+    name: NameId,
+    terms: &[Term],
+    v: &V,
+) -> &'s [&'a Event]
+    requires { IsSortedByKey key_of event_cmp order.now }
+    ensures { (event : AnyEvent) → Contains (shown_events result.now) event
+        ↔ (Contains (shown_events order.now) event × (event.name ≡ name)
+        × (map Some (take (length terms.now) event.args) ≡ map (value_of_term (V.valuation v.now)) terms.now)) }
+{
+    let from = order.partition_point(|event| compare_beginning(event, name, terms, v).is_lt());
+    let behind = &order[from..];
+    let count = behind.partition_point(|event| compare_beginning(event, name, terms, v).is_le());
+    &behind[..count]
 }

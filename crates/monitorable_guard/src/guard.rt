@@ -6,7 +6,7 @@ ghost use Rattle.valuations.specs.machine.Tables.{IsTable, Relation};
 ghost use Rattle.monitorable_guard.specs.machine.Evaluation.{AreOpen, CanEvaluate, HasKnownValues, AreHoldingRows};
 ghost use Rattle.enf_formula.specs.machine.FormulaViews.{tree_of};
 ghost use Rattle.enf_formula.specs.meaning.Satisfaction.{IsFree};
-ghost use Rattle.enf_formula.specs.meaning.FormulaShape.{BindsFresh};
+ghost use Rattle.enf_formula.specs.machine.FormulaShape.{BindsFresh};
 ghost use Rattle.monitorable_guard.specs.meaning.Safety.{FreeWithin, Safe, IsTest};
 ghost use Rattle.monitorable_guard.specs.machine.PresentMeaning.{HoldsNow};
 ghost use Rattle.monitorable_guard.specs.machine.Guards.{RefusesGuard};

@@ -1,15 +1,9 @@
 -- What is put last by the parts of a plan is what its whole puts last.
-use Rattle.obligations.proofs.Vocabulary.{◌≡◌, ℕ, zero, suc, ◌+◌, ◌<◌, Bool, true, false, List, []}
-use Rattle.obligations.proofs.Vocabulary.{◌∷◌, ◌++◌, length, take, Contains, Option, refl, sym, ap, subst}
-use Rattle.obligations.proofs.Vocabulary.{arith, inl, inr, ◌∙◌, append_assoc, get_or, true≢false, IsFalse}
-use Rattle.obligations.proofs.Vocabulary.{option_to_list, append-nil, here, later, Valuation, values_of_terms}
-use Rattle.obligations.proofs.Vocabulary.{with_values, BindsColumns, Event, NameId, Step, Term, VarId, Value, Formula}
-use Rattle.obligations.proofs.Vocabulary.{AreNewVariables, AreOpen, FreeWithin, AreEvaluated, HasOpenColumns}
-use Rattle.obligations.proofs.Vocabulary.{IsEvaluated, Plan, CausePlan, SuppressPlan, Either, TestOr, Guarded}
-use Rattle.obligations.proofs.Vocabulary.{UntilPlan, filled_from_row, IsTable, Relation, AddsList, TellsNothing}
-use Rattle.obligations.proofs.Vocabulary.{IsNowOf, CanAskPlan, CanAskIn, IsGuardAt, FitsScope, guards_at, LiteralUnless}
-use Rattle.obligations.proofs.Vocabulary.{Missing, HasSome, MissesEither, OfEvent, cause_literal, suppress_literal}
-use Rattle.obligations.proofs.Vocabulary.{Gathers, Literal, Now}
+use Rattle.obligations.proofs.Vocabulary.{◌≡◌, ℕ, zero, suc, ◌+◌, ◌<◌, Bool, true, false, List, [], ◌∷◌, ◌++◌, length, take, Contains, Option, refl, sym, ap, subst, arith, inl, inr, ◌∙◌, append_assoc}
+use Rattle.obligations.proofs.Vocabulary.{get_or, true≢false, IsFalse, option_to_list, append-nil, here, later, Valuation, values_of_terms, with_values, BindsColumns, Event, NameId, Step, Term, VarId}
+use Rattle.obligations.proofs.Vocabulary.{Value, Formula, AreNewVariables, AreOpen, FreeWithin, AreEvaluated, HasOpenColumns, IsEvaluated, Plan, CausePlan, SuppressPlan, Either, TestOr, Guarded}
+use Rattle.obligations.proofs.Vocabulary.{UntilPlan, filled_from_row, IsTable, Relation, AddsList, TellsNothing, IsNowOf, CanAskPlan, CanAskIn, IsGuardAt, FitsScope, guards_at, LiteralUnless, Missing}
+use Rattle.obligations.proofs.Vocabulary.{HasSome, MissesEither, OfEvent, cause_literal, suppress_literal, Gathers, Literal, Now}
 use Rattle.std.specs.Prelude.{IsTrue}
 use Rattle.obligations.proofs.AskablePlanLemmas.{filled_is, row_fits, rows_are, same_columns, test_is, under_row}
 

@@ -1,18 +1,11 @@
 -- What asking a plan takes: guards at their numbers, variables that have values, and rows of tables.
-use Rattle.obligations.proofs.Vocabulary.{◌≡◌, ℕ, zero, suc, ◌<◌, List, [], ◌∷◌, ◌++◌, length}
-use Rattle.obligations.proofs.Vocabulary.{map, Contains, None, Some, IsTrue, refl, sym, ap, subst, arith, ⊎_elim}
-use Rattle.obligations.proofs.Vocabulary.{◌∙◌, ◌↔◌, slice_get, IsSome, Contains-append_left}
-use Rattle.obligations.proofs.Vocabulary.{Contains-append_right, same_Some, none-some, AllByRecursion-contains}
-use Rattle.obligations.proofs.Vocabulary.{Contains-append, HasNoRepeats, rising_behind, rising_distinct, same_rising}
-use Rattle.obligations.proofs.Vocabulary.{Valuation, value_at, variable_cmp, with_values, BindsColumns}
-use Rattle.obligations.proofs.Vocabulary.{variable_cmp_total, Step, Term, Var, VarId, Value, some_value, Formula}
-use Rattle.obligations.proofs.Vocabulary.{IsFree, AreTermsInScope, AreNewVariables, IsTermInScope, new_apart, AreOpen}
-use Rattle.obligations.proofs.Vocabulary.{AreHoldingRows, HoldsNow, AreEvaluated, IsEvaluated, BindsBound}
-use Rattle.obligations.proofs.Vocabulary.{HasOpenColumns, IsGuard, IsTestOf, PastTables, guard_formula, tables_of}
-use Rattle.obligations.proofs.Vocabulary.{PlacedGuard, among_or_not, agrees_once, cell_some, table_row-length}
-use Rattle.obligations.proofs.Vocabulary.{value_at-with_inside, value_at-with_outside, filled_fresh, filled_from_row}
-use Rattle.obligations.proofs.Vocabulary.{AgreeOnColumns, AgreesWithRow, HasValuation, IsTable, Relation, FitsScope}
-use Rattle.obligations.proofs.Vocabulary.{IsGuardAt, IsNowOf, placed_guard, guards_at, AreGuardRows, HoldsLast, Now}
+use Rattle.obligations.proofs.Vocabulary.{◌≡◌, ℕ, zero, suc, ◌<◌, List, [], ◌∷◌, ◌++◌, length, map, Contains, None, Some, IsTrue, refl, sym, ap, subst, arith, ⊎_elim, ◌∙◌, ◌↔◌, slice_get, IsSome}
+use Rattle.obligations.proofs.Vocabulary.{Contains-append_left, Contains-append_right, same_Some, none-some, AllByRecursion-contains, Contains-append, HasNoRepeats, rising_behind, rising_distinct}
+use Rattle.obligations.proofs.Vocabulary.{same_rising, Valuation, value_at, variable_cmp, with_values, BindsColumns, variable_cmp_total, Step, Term, Var, VarId, Value, some_value, Formula, IsFree}
+use Rattle.obligations.proofs.Vocabulary.{AreTermsInScope, AreNewVariables, IsTermInScope, new_apart, AreOpen, AreHoldingRows, HoldsNow, AreEvaluated, IsEvaluated, BindsBound, HasOpenColumns, IsGuard}
+use Rattle.obligations.proofs.Vocabulary.{IsTestOf, PastTables, guard_formula, tables_of, PlacedGuard, among_or_not, agrees_once, cell_some, table_row-length, value_at-with_inside}
+use Rattle.obligations.proofs.Vocabulary.{value_at-with_outside, filled_fresh, filled_from_row, AgreeOnColumns, AgreesWithRow, HasValuation, IsTable, Relation, FitsScope, IsGuardAt, IsNowOf}
+use Rattle.obligations.proofs.Vocabulary.{placed_guard, guards_at, AreGuardRows, HoldsLast, Now}
 use Rattle.std.specs.Prelude.{Bool}
 
 -- ---- a guard at its number

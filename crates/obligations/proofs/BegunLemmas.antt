@@ -1,17 +1,10 @@
 -- What the parts of a plan begin is what its whole begins.
-use Rattle.obligations.proofs.Vocabulary.{◌≡◌, ℕ, zero, suc, ◌+◌, ◌<◌, Bool, true, false, List, []}
-use Rattle.obligations.proofs.Vocabulary.{◌∷◌, ◌++◌, length, length-append, Contains, None, refl, sym, ap}
-use Rattle.obligations.proofs.Vocabulary.{append_assoc, subst, arith, inl, inr, ◌⊎◌, ◌∙◌, true≢false}
-use Rattle.obligations.proofs.Vocabulary.{IsFalse, AllByRecursion, append-nil, nil_from_length, AllByRecursion-append}
-use Rattle.obligations.proofs.Vocabulary.{AllByRecursion-contains, AllByRecursion-from_contains, here, Value, Valuation}
-use Rattle.obligations.proofs.Vocabulary.{with_values, BindsColumns, Step, VarId, Formula, AreNewVariables, AreOpen}
-use Rattle.obligations.proofs.Vocabulary.{FreeWithin, AreEvaluated, HasOpenColumns, IsEvaluated, GuardLooksBack}
-use Rattle.obligations.proofs.Vocabulary.{EndsInTime, is_future, nodes, node_number, Plan, Both, Either, TestOr}
-use Rattle.obligations.proofs.Vocabulary.{Guarded, EventuallyPlan, AlwaysPlan, UntilPlan, NextPlan, IsNodeByNumber}
-use Rattle.obligations.proofs.Vocabulary.{StandsIn, filled_from_row, IsTable, Relation, AddsAsked, IsBegunHere}
-use Rattle.obligations.proofs.Vocabulary.{TellsNothing, begun_at_now, IsNowOf, IsSideTaken, TakesSide, CanAskPlan}
-use Rattle.obligations.proofs.Vocabulary.{IsGuardAt, CanAskOf, FitsScope, guards_at, BeginsOrWaits, Begun, LacksNothing}
-use Rattle.obligations.proofs.Vocabulary.{LacksSome, WithBehind, begun_now, Gathers, IsReachedBy, Instance, Now}
+use Rattle.obligations.proofs.Vocabulary.{◌≡◌, ℕ, zero, suc, ◌+◌, ◌<◌, Bool, true, false, List, [], ◌∷◌, ◌++◌, length, length-append, Contains, None, refl, sym, ap, append_assoc, subst, arith, inl}
+use Rattle.obligations.proofs.Vocabulary.{inr, ◌⊎◌, ◌∙◌, true≢false, IsFalse, AllByRecursion, append-nil, nil_from_length, AllByRecursion-append, AllByRecursion-contains, AllByRecursion-from_contains}
+use Rattle.obligations.proofs.Vocabulary.{here, Value, Valuation, with_values, BindsColumns, Step, VarId, Formula, AreNewVariables, AreOpen, FreeWithin, AreEvaluated, HasOpenColumns, IsEvaluated}
+use Rattle.obligations.proofs.Vocabulary.{GuardLooksBack, EndsInTime, is_future, nodes, node_number, Plan, Both, Either, TestOr, Guarded, EventuallyPlan, AlwaysPlan, UntilPlan, NextPlan}
+use Rattle.obligations.proofs.Vocabulary.{IsNodeByNumber, StandsIn, filled_from_row, IsTable, Relation, AddsAsked, IsBegunHere, TellsNothing, begun_at_now, IsNowOf, IsSideTaken, TakesSide, CanAskPlan}
+use Rattle.obligations.proofs.Vocabulary.{IsGuardAt, CanAskOf, FitsScope, guards_at, BeginsOrWaits, Begun, LacksNothing, LacksSome, WithBehind, begun_now, Gathers, IsReachedBy, Instance, Now}
 use Rattle.std.specs.Prelude.{IsTrue}
 use Rattle.obligations.proofs.AdditionLemmas.{gathers_as, row_is}
 use Rattle.obligations.proofs.AskablePlanLemmas.{rows_are, test_is}

@@ -1,11 +1,8 @@
 -- The rows of p(x) at small steps, which the worked cases have in common.
-use Rattle.obligations.proofs.Vocabulary.{rules, ◌≡◌, ℕ, zero, suc, List, [], ◌∷◌, length, All, Contains}
-use Rattle.obligations.proofs.Vocabulary.{Some, ap, subst, sym, arith, lit<, slice_index_or, ⊎_elim, ◌∙◌}
-use Rattle.obligations.proofs.Vocabulary.{◌↔◌, false≢true, same_Some, value_eq-Decides, first_or_later, later}
-use Rattle.obligations.proofs.Vocabulary.{none_in_nil, row_cmp, no_values, onto_values, value_at, values_of_terms}
-use Rattle.obligations.proofs.Vocabulary.{with_values, value_at-insert, Event, Var, Value, event_p_of, event_q_of}
-use Rattle.obligations.proofs.Vocabulary.{formula_p_x, name_p, variable_x, IsEventAmong, at_5, bound_to, value_1}
-use Rattle.obligations.proofs.Vocabulary.{p_of_1, q_of_1, value_2, two_and_one, AreGuardRows, HoldsLast}
+use Rattle.obligations.proofs.Vocabulary.{rules, ◌≡◌, ℕ, zero, suc, List, [], ◌∷◌, length, All, Contains, Some, ap, subst, sym, arith, lit<, slice_index_or, ⊎_elim, ◌∙◌, ◌↔◌, false≢true, same_Some}
+use Rattle.obligations.proofs.Vocabulary.{value_eq-Decides, first_or_later, later, none_in_nil, row_cmp, no_values, onto_values, value_at, values_of_terms, with_values, value_at-insert, Event, Var}
+use Rattle.obligations.proofs.Vocabulary.{Value, event_p_of, event_q_of, formula_p_x, name_p, variable_x, IsEventAmong, at_5, bound_to, value_1, p_of_1, q_of_1, value_2, two_and_one, AreGuardRows}
+use Rattle.obligations.proofs.Vocabulary.{HoldsLast}
 use Rattle.std.specs.Prelude.{Option}
 use Rattle.std.specs.List.Sorted.{IsStrictlySortedBy}
 

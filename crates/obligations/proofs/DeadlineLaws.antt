@@ -1,10 +1,7 @@
 -- The deadlines of what is pending, one by one.
-use Rattle.obligations.proofs.Vocabulary.{true_from_eq, first_or_later, none_in_nil, here, later, ◌∙◌, ap, arith}
-use Rattle.obligations.proofs.Vocabulary.{⊎_elim, refl, subst, false≢true, sum_by-cons, count_by, ◌==◌}
-use Rattle.obligations.proofs.Vocabulary.{has_deadline, Plan, Instance, is_deadline_at, deadline_at, is_due, count_due}
-use Rattle.obligations.proofs.Vocabulary.{AtNode, HasDeadline, node_of}
-use Rattle.std.specs.Prelude.{◌≡◌, ℕ, ◌<◌, Bool, true, cond, List, [], ◌∷◌, Contains, false}
-use Rattle.std.specs.Prelude.{None, Some, Option}
+use Rattle.obligations.proofs.Vocabulary.{true_from_eq, first_or_later, none_in_nil, here, later, ◌∙◌, ap, arith, ⊎_elim, refl, subst, false≢true, sum_by-cons, count_by, ◌==◌, has_deadline, Plan}
+use Rattle.obligations.proofs.Vocabulary.{Instance, is_deadline_at, deadline_at, is_due, count_due, AtNode, HasDeadline, node_of}
+use Rattle.std.specs.Prelude.{◌≡◌, ℕ, ◌<◌, Bool, true, cond, List, [], ◌∷◌, Contains, false, None, Some, Option}
 
 -- of what is in a list and passes a test, one at least is counted
 counted : {X : Type 0} (p : X → Bool) (xs : List X) (x : X) → Contains xs x → p x ≡ true → 0 < count_by p xs

@@ -1,17 +1,10 @@
 -- That what is missing and begun at a step is a list: guards have lists of rows, and tests are decided.
-use Rattle.obligations.proofs.Vocabulary.{◌≡◌, ℕ, zero, suc, Bool, true, false, List, [], ◌∷◌, ◌++◌}
-use Rattle.obligations.proofs.Vocabulary.{length, Contains, refl, sym, subst, inl, inr, ⊎_elim, ◌⊎◌, Decides}
-use Rattle.obligations.proofs.Vocabulary.{list_any, false≢true, All-contains, step_at, Valuation, values_of_terms}
-use Rattle.obligations.proofs.Vocabulary.{with_values, BindsColumns, Event, NameId, Step, Term, VarId, Value, event_eq}
-use Rattle.obligations.proofs.Vocabulary.{event_eq-Decides, list_any-Decides, Formula, AreTermsInScope, AreNewVariables}
-use Rattle.obligations.proofs.Vocabulary.{new_apart, AreOpen, AreTold, SafeHasRows, SafeIsDecided, Plan, CausePlan}
-use Rattle.obligations.proofs.Vocabulary.{SuppressPlan, Both, Either, TestOr, Guarded, EventuallyPlan, AlwaysPlan}
-use Rattle.obligations.proofs.Vocabulary.{UntilPlan, NextPlan, has_future, CanAskIn, IsGuardAt, FitsScope, BeginsAlways}
-use Rattle.obligations.proofs.Vocabulary.{BeginsOrWaits, Begun, LacksNothing, LacksSome, TakesOrElse, TakesPresent}
-use Rattle.obligations.proofs.Vocabulary.{IfElse, WithBehind, begun_now, HasSome, IsAbsent, IsPresent, LiteralUnless}
-use Rattle.obligations.proofs.Vocabulary.{MissesEither, MissesUntil, MissesAlways, Missing, OfEvent, cause_literal}
-use Rattle.obligations.proofs.Vocabulary.{suppress_literal, AreGuardRows, HoldsLast, last_position, BegunExists}
-use Rattle.obligations.proofs.Vocabulary.{MissingExists, Instance, Literal}
+use Rattle.obligations.proofs.Vocabulary.{◌≡◌, ℕ, zero, suc, Bool, true, false, List, [], ◌∷◌, ◌++◌, length, Contains, refl, sym, subst, inl, inr, ⊎_elim, ◌⊎◌, Decides, list_any, false≢true}
+use Rattle.obligations.proofs.Vocabulary.{All-contains, step_at, Valuation, values_of_terms, with_values, BindsColumns, Event, NameId, Step, Term, VarId, Value, event_eq, event_eq-Decides}
+use Rattle.obligations.proofs.Vocabulary.{list_any-Decides, Formula, AreTermsInScope, AreNewVariables, new_apart, AreOpen, AreTold, SafeHasRows, SafeIsDecided, Plan, CausePlan, SuppressPlan, Both}
+use Rattle.obligations.proofs.Vocabulary.{Either, TestOr, Guarded, EventuallyPlan, AlwaysPlan, UntilPlan, NextPlan, has_future, CanAskIn, IsGuardAt, FitsScope, BeginsAlways, BeginsOrWaits, Begun}
+use Rattle.obligations.proofs.Vocabulary.{LacksNothing, LacksSome, TakesOrElse, TakesPresent, IfElse, WithBehind, begun_now, HasSome, IsAbsent, IsPresent, LiteralUnless, MissesEither, MissesUntil}
+use Rattle.obligations.proofs.Vocabulary.{MissesAlways, Missing, OfEvent, cause_literal, suppress_literal, AreGuardRows, HoldsLast, last_position, BegunExists, MissingExists, Instance, Literal}
 use Rattle.obligations.proofs.AdditionLemmas.{gathers_exist}
 use Rattle.obligations.proofs.LeafLemmas.{bound_values}
 use Rattle.obligations.proofs.AskablePlanLemmas.{leaf_binds, new_distinct, under_row}

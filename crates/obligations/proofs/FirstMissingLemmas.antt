@@ -1,15 +1,9 @@
 -- The first literal that the parts of a plan miss is the first that its whole misses.
-use Rattle.obligations.proofs.Vocabulary.{◌≡◌, ℕ, zero, suc, ◌<◌, Bool, true, false, List, [], ◌∷◌}
-use Rattle.obligations.proofs.Vocabulary.{◌++◌, length, Contains, Option, None, Some, refl, sym, subst, arith, inl}
-use Rattle.obligations.proofs.Vocabulary.{inr, ◌∙◌, true≢false, take, get_or, is_none, option_to_list}
-use Rattle.obligations.proofs.Vocabulary.{◌↔◌, IsFalse, IsSome, not, Valuation, value_at, values_of_terms}
-use Rattle.obligations.proofs.Vocabulary.{with_values, BindsColumns, Event, NameId, Step, Term, Var, VarId, Formula}
-use Rattle.obligations.proofs.Vocabulary.{IsEventAmong, AreNewVariables, AreOpen, FreeWithin, AreEvaluated}
-use Rattle.obligations.proofs.Vocabulary.{HasOpenColumns, IsEvaluated, Plan, CausePlan, SuppressPlan, Both, Either}
-use Rattle.obligations.proofs.Vocabulary.{TestOr, Guarded, UntilPlan, filled_from_row, IsTable, Relation, TellsNothing}
-use Rattle.obligations.proofs.Vocabulary.{IsNowOf, CanAskPlan, IsGuardAt, FitsScope, guards_at, MissingExists}
-use Rattle.obligations.proofs.Vocabulary.{LiteralUnless, Missing, OfEvent, cause_literal, suppress_literal, Gathers}
-use Rattle.obligations.proofs.Vocabulary.{FirstMissing, FirstOf, Literal, Now, later}
+use Rattle.obligations.proofs.Vocabulary.{◌≡◌, ℕ, zero, suc, ◌<◌, Bool, true, false, List, [], ◌∷◌, ◌++◌, length, Contains, Option, None, Some, refl, sym, subst, arith, inl, inr, ◌∙◌, true≢false}
+use Rattle.obligations.proofs.Vocabulary.{take, get_or, is_none, option_to_list, ◌↔◌, IsFalse, IsSome, not, Valuation, value_at, values_of_terms, with_values, BindsColumns, Event, NameId, Step, Term}
+use Rattle.obligations.proofs.Vocabulary.{Var, VarId, Formula, IsEventAmong, AreNewVariables, AreOpen, FreeWithin, AreEvaluated, HasOpenColumns, IsEvaluated, Plan, CausePlan, SuppressPlan, Both}
+use Rattle.obligations.proofs.Vocabulary.{Either, TestOr, Guarded, UntilPlan, filled_from_row, IsTable, Relation, TellsNothing, IsNowOf, CanAskPlan, IsGuardAt, FitsScope, guards_at, MissingExists}
+use Rattle.obligations.proofs.Vocabulary.{LiteralUnless, Missing, OfEvent, cause_literal, suppress_literal, Gathers, FirstMissing, FirstOf, Literal, Now, later}
 use Rattle.std.specs.Prelude.{IsTrue}
 use Rattle.obligations.proofs.AdditionLemmas.{gathers_as, gathers_exist, right_of_either, row_is}
 use Rattle.obligations.proofs.AskablePlanLemmas.{rows_are, test_is}

@@ -1,6 +1,5 @@
 -- What is in a list that was gathered came from one of the items.
-use Rattle.obligations.proofs.Vocabulary.{Contains-append, here, later, none_in_nil, Step, no_values, subst, ⊎_elim}
-use Rattle.obligations.proofs.Vocabulary.{arith, refl, slice_get, Plan, Instance, Begun, Gathers, BegunByRoots}
+use Rattle.obligations.proofs.Vocabulary.{Contains-append, here, later, none_in_nil, Step, no_values, subst, ⊎_elim, arith, refl, slice_get, Plan, Instance, Begun, Gathers, BegunByRoots}
 use Rattle.std.specs.Prelude.{List, [], ◌∷◌, Contains, ◌≡◌, ℕ, suc, ◌+◌, Some}
 
 -- ---- what is gathered

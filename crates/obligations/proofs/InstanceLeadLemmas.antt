@@ -1,15 +1,9 @@
 -- What a step begins is led to by what began it.
-use Rattle.obligations.proofs.Vocabulary.{◌≡◌, ◌⊎◌, ℕ, zero, suc, ◌<◌, ◌≤◌, Bool, true, false}
-use Rattle.obligations.proofs.Vocabulary.{◌||◌, List, [], ◌∷◌, ◌++◌, length, Contains, Some, inl, inr}
-use Rattle.obligations.proofs.Vocabulary.{⊎_elim, refl, sym, ap, subst, ◌∙◌, arith, AllByRecursion, list_any}
-use Rattle.obligations.proofs.Vocabulary.{false≢true, append-nil, All-contains, step_at, Contains-append}
-use Rattle.obligations.proofs.Vocabulary.{first_or_later, none_in_nil, Valuation, with_values, Step, Value, Sat}
-use Rattle.obligations.proofs.Vocabulary.{GuardLooksBack, IsLost, IsAhead, IsNotMet, LeadsThrough, LeadsTo, Obligation}
-use Rattle.obligations.proofs.Vocabulary.{obligation, has_future, is_future, nodes, node_number, node_in, formula_for}
-use Rattle.obligations.proofs.Vocabulary.{Plan, CausePlan, SuppressPlan, Both, Either, TestOr, Guarded, EventuallyPlan}
-use Rattle.obligations.proofs.Vocabulary.{AlwaysPlan, UntilPlan, NextPlan, IsNodeByNumber, StandsIn, Begun, LacksSome}
-use Rattle.obligations.proofs.Vocabulary.{TakesOrElse, TakesPresent, IfElse, WithBehind, begun_now, last_position}
-use Rattle.obligations.proofs.Vocabulary.{SomethingMissedIsLost, IsNowIn, IsBegunBy, Instance}
+use Rattle.obligations.proofs.Vocabulary.{◌≡◌, ◌⊎◌, ℕ, zero, suc, ◌<◌, ◌≤◌, Bool, true, false, ◌||◌, List, [], ◌∷◌, ◌++◌, length, Contains, Some, inl, inr, ⊎_elim, refl, sym, ap, subst, ◌∙◌, arith}
+use Rattle.obligations.proofs.Vocabulary.{AllByRecursion, list_any, false≢true, append-nil, All-contains, step_at, Contains-append, first_or_later, none_in_nil, Valuation, with_values, Step, Value}
+use Rattle.obligations.proofs.Vocabulary.{Sat, GuardLooksBack, IsLost, IsAhead, IsNotMet, LeadsThrough, LeadsTo, Obligation, obligation, has_future, is_future, nodes, node_number, node_in}
+use Rattle.obligations.proofs.Vocabulary.{formula_for, Plan, CausePlan, SuppressPlan, Both, Either, TestOr, Guarded, EventuallyPlan, AlwaysPlan, UntilPlan, NextPlan, IsNodeByNumber, StandsIn, Begun}
+use Rattle.obligations.proofs.Vocabulary.{LacksSome, TakesOrElse, TakesPresent, IfElse, WithBehind, begun_now, last_position, SomethingMissedIsLost, IsNowIn, IsBegunBy, Instance}
 use Rattle.obligations.proofs.GatheredLists.{Gathers-contains}
 use Rattle.obligations.proofs.SoundnessLemmas.{all_left, all_right}
 

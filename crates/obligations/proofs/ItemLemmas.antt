@@ -1,7 +1,6 @@
 -- What holds of each item of a list: that no node looks ahead, and one item more.
-use Rattle.obligations.proofs.Vocabulary.{◌≡◌, ℕ, zero, suc, ◌+◌, ◌<◌, Bool, true, false, List, []}
-use Rattle.obligations.proofs.Vocabulary.{◌∷◌, length, map, take, get_or, refl, sym, subst, arith, ◌||◌}
-use Rattle.obligations.proofs.Vocabulary.{◌∙◌, false≢true, AllByRecursion, list_any, is_future, Plan}
+use Rattle.obligations.proofs.Vocabulary.{◌≡◌, ℕ, zero, suc, ◌+◌, ◌<◌, Bool, true, false, List, [], ◌∷◌, length, map, take, get_or, refl, sym, subst, arith, ◌||◌, ◌∙◌, false≢true, AllByRecursion}
+use Rattle.obligations.proofs.Vocabulary.{list_any, is_future, Plan}
 
 -- no node of a list is one on the future
 pub none_ahead : (b : Bool) (ps : List Plan) → b ≡ list_any is_future ps → b ≡ false → AllByRecursion (λ p. is_future p ≡ false) ps

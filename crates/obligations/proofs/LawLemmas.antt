@@ -1,13 +1,9 @@
 -- The laws of what is missed, begun and pending, over whole traces.
-use Rattle.obligations.proofs.Vocabulary.{◌≡◌, ℕ, ◌<◌, ◌≤◌, true, false, List, [], ◌++◌, length}
-use Rattle.obligations.proofs.Vocabulary.{Option, Some, refl, sym, subst, arith, AllByRecursion, IsTrace, step_at, Step}
-use Rattle.obligations.proofs.Vocabulary.{PastDecides, nodes, has_deadline, Plan, CausePlan, SuppressPlan, Both, Either}
-use Rattle.obligations.proofs.Vocabulary.{TestOr, Guarded, EventuallyPlan, AlwaysPlan, UntilPlan, NextPlan, time_now}
-use Rattle.obligations.proofs.Vocabulary.{last_position, GuardLooksBack, IsNodeByNumber, StandsIn}
-use Rattle.obligations.proofs.Vocabulary.{NothingMissedIsEnough, NothingMissedIsEnoughPending, SomethingMissedIsLost}
-use Rattle.obligations.proofs.Vocabulary.{AtNode, BecomesAt, MissesAt, node_of, OwesAt, Residual, Instance}
-use Rattle.obligations.proofs.SoundnessLemmas.{all_left, all_right, enough, lost, meets_always, meets_eventually}
-use Rattle.obligations.proofs.SoundnessLemmas.{meets_next, meets_until}
+use Rattle.obligations.proofs.Vocabulary.{◌≡◌, ℕ, ◌<◌, ◌≤◌, true, false, List, [], ◌++◌, length, Option, Some, refl, sym, subst, arith, AllByRecursion, IsTrace, step_at, Step, PastDecides, nodes}
+use Rattle.obligations.proofs.Vocabulary.{has_deadline, Plan, CausePlan, SuppressPlan, Both, Either, TestOr, Guarded, EventuallyPlan, AlwaysPlan, UntilPlan, NextPlan, time_now, last_position}
+use Rattle.obligations.proofs.Vocabulary.{GuardLooksBack, IsNodeByNumber, StandsIn, NothingMissedIsEnough, NothingMissedIsEnoughPending, SomethingMissedIsLost, AtNode, BecomesAt, MissesAt, node_of}
+use Rattle.obligations.proofs.Vocabulary.{OwesAt, Residual, Instance}
+use Rattle.obligations.proofs.SoundnessLemmas.{all_left, all_right, enough, lost, meets_always, meets_eventually, meets_next, meets_until}
 use Rattle.obligations.proofs.UniquenessLemmas.{missing_is_one}
 use Rattle.obligations.proofs.RowsLemmas.{rows_are_one}
 

@@ -1,11 +1,8 @@
 -- Events that leaves speak of: a row and the values of terms.
-use Rattle.obligations.proofs.Vocabulary.{◌≡◌, ℕ, true, List, [], ◌∷◌, map, Contains, ◌++◌, Option}
-use Rattle.obligations.proofs.Vocabulary.{None, Some, refl, sym, ap, subst, inl, inr, ◌∙◌, IsSome, Equal-is}
-use Rattle.obligations.proofs.Vocabulary.{option_to_list, is_eq, ordering_reverse, Ordering, Less, Equal, Greater}
-use Rattle.obligations.proofs.Vocabulary.{false≢true, IsEventAmong, here, later, Valuation, onto_values, value_at}
-use Rattle.obligations.proofs.Vocabulary.{value_of_term, values_of_terms, Event, NameId, Term, Var, Const, VarId, Value}
-use Rattle.obligations.proofs.Vocabulary.{listed_values, values_listed, key_cmp, key_cmp_exact, key_cmp_total}
-use Rattle.obligations.proofs.Vocabulary.{LiteralUnless, OfEvent, suppress_literal, Literal}
+use Rattle.obligations.proofs.Vocabulary.{◌≡◌, ℕ, true, List, [], ◌∷◌, map, Contains, ◌++◌, Option, None, Some, refl, sym, ap, subst, inl, inr, ◌∙◌, IsSome, Equal-is, option_to_list, is_eq}
+use Rattle.obligations.proofs.Vocabulary.{ordering_reverse, Ordering, Less, Equal, Greater, false≢true, IsEventAmong, here, later, Valuation, onto_values, value_at, value_of_term, values_of_terms}
+use Rattle.obligations.proofs.Vocabulary.{Event, NameId, Term, Var, Const, VarId, Value, listed_values, values_listed, key_cmp, key_cmp_exact, key_cmp_total, LiteralUnless, OfEvent, suppress_literal}
+use Rattle.obligations.proofs.Vocabulary.{Literal}
 
 tied : (r : Ordering) → r ≡ ordering_reverse r → r ≡ Equal
 tied Less e = absurd (cc)

@@ -6,6 +6,7 @@ pub mod CaseLemmas
 pub mod DeadlineLaws
 pub mod EmptyGuardLemmas
 pub mod ExistenceLemmas
+pub mod FallingLemmas
 pub mod FirstMissingLemmas
 pub mod GatheredLists
 pub mod InstanceLeadLemmas
@@ -14,6 +15,7 @@ pub mod LawLemmas
 pub mod LeafLemmas
 pub mod LiteralLeadLemmas
 pub mod LossLemmas
+pub mod MetStaysLemmas
 pub mod MissingLeafLemmas
 pub mod OwedCases
 pub mod PartLemmas
@@ -38,5 +40,6 @@ pub mod UniquenessLemmas
 pub mod UnreadInstanceLemmas
 pub mod UnreadNameLemmas
 pub mod ValueSourceLemmas
+pub mod WakingLemmas
 pub mod WantedLiteralLemmas
 pub mod WellFormedLemmas

@@ -1,14 +1,9 @@
 -- What is missed at a step is led to by what misses it.
-use Rattle.obligations.proofs.Vocabulary.{◌≡◌, ℕ, zero, suc, ◌<◌, ◌≤◌, List, [], ◌∷◌, length}
-use Rattle.obligations.proofs.Vocabulary.{Contains, Option, None, Some, inl, inr, ⊎_elim, refl, sym, ap, subst, arith}
-use Rattle.obligations.proofs.Vocabulary.{AllByRecursion, append-nil, All-contains, step_at, Contains-append}
-use Rattle.obligations.proofs.Vocabulary.{first_or_later, none_in_nil, Valuation, values_of_terms, with_values, NameId}
-use Rattle.obligations.proofs.Vocabulary.{Step, Value, GuardLooksBack, IsLost, IsAhead, IsNotMet, IsStillLost}
-use Rattle.obligations.proofs.Vocabulary.{LeadsThrough, LeadsTo, Obligation, obligation, nodes, Plan, CausePlan}
-use Rattle.obligations.proofs.Vocabulary.{SuppressPlan, Both, Either, TestOr, Guarded, EventuallyPlan, AlwaysPlan}
-use Rattle.obligations.proofs.Vocabulary.{UntilPlan, NextPlan, LeadsOn, StandsIn, LacksSome, IsWantedBy, ServesLiteral}
-use Rattle.obligations.proofs.Vocabulary.{HasSome, IsAbsent, IsPresent, LiteralUnless, Missing, OfEvent, cause_literal}
-use Rattle.obligations.proofs.Vocabulary.{suppress_literal, last_position, SomethingMissedIsLost, Literal}
+use Rattle.obligations.proofs.Vocabulary.{◌≡◌, ℕ, zero, suc, ◌<◌, ◌≤◌, List, [], ◌∷◌, length, Contains, Option, None, Some, inl, inr, ⊎_elim, refl, sym, ap, subst, arith, AllByRecursion, append-nil}
+use Rattle.obligations.proofs.Vocabulary.{All-contains, step_at, Contains-append, first_or_later, none_in_nil, Valuation, values_of_terms, with_values, NameId, Step, Value, GuardLooksBack, IsLost}
+use Rattle.obligations.proofs.Vocabulary.{IsAhead, IsNotMet, IsStillLost, LeadsThrough, LeadsTo, Obligation, obligation, nodes, Plan, CausePlan, SuppressPlan, Both, Either, TestOr, Guarded}
+use Rattle.obligations.proofs.Vocabulary.{EventuallyPlan, AlwaysPlan, UntilPlan, NextPlan, LeadsOn, StandsIn, LacksSome, IsWantedBy, ServesLiteral, HasSome, IsAbsent, IsPresent, LiteralUnless}
+use Rattle.obligations.proofs.Vocabulary.{Missing, OfEvent, cause_literal, suppress_literal, last_position, SomethingMissedIsLost, Literal}
 use Rattle.obligations.proofs.GatheredLists.{Gathers-contains}
 use Rattle.obligations.proofs.InstanceLeadLemmas.{at_once, fails_here, left_stands, lost_here, right_stands}
 use Rattle.obligations.specs.declared.literals.LiteralKind.TheVariants as kind

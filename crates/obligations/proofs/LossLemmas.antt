@@ -1,20 +1,11 @@
 -- What is missed of something pending is lost, and what is pending is owed.
-use Rattle.obligations.proofs.Vocabulary.{◌≡◌, ℕ, zero, suc, ◌+◌, ◌-◌, ◌<◌, ◌≤◌, Bool, true}
-use Rattle.obligations.proofs.Vocabulary.{false, List, [], ◌∷◌, ◌++◌, length, take, drop, Contains, Option}
-use Rattle.obligations.proofs.Vocabulary.{None, Some, inr, ⊎_elim, refl, sym, ap, subst, ◌∙◌, arith}
-use Rattle.obligations.proofs.Vocabulary.{length-append, take-suc, cases_lt, false≢true, append-nil}
-use Rattle.obligations.proofs.Vocabulary.{get_or-append-add, get_or_append_left, length-take-le, take-append-drop}
-use Rattle.obligations.proofs.Vocabulary.{take_all, All-weaker, same_Some, IsTrace, step_at, no_step, none_in_nil, IsIn}
-use Rattle.obligations.proofs.Vocabulary.{Valuation, Step, Sat, elapsed, Continuation, last_time, LastIsAtTheEnd}
-use Rattle.obligations.proofs.Vocabulary.{IsLost, IsAhead, IsOwed, LostStaysLost, OwedLeadsOn, OwedStaysOwed}
-use Rattle.obligations.proofs.Vocabulary.{FoundIsFirst, window_end, has_deadline, formula_for, interval_from_to, Plan}
-use Rattle.obligations.proofs.Vocabulary.{CausePlan, SuppressPlan, Both, Either, TestOr, Guarded, EventuallyPlan}
-use Rattle.obligations.proofs.Vocabulary.{AlwaysPlan, UntilPlan, NextPlan, StandsIn, IfElse, time_now, IsNeeded}
-use Rattle.obligations.proofs.Vocabulary.{Missing, last_position, SomethingMissedIsLost, time_behind, AtNode}
-use Rattle.obligations.proofs.Vocabulary.{PendingAfter, HasDeadline, IsClean, MissesAt, NoneIsOver, PendsBehind}
-use Rattle.obligations.proofs.Vocabulary.{node_of, PlansStand, Instance, Literal}
-use Rattle.obligations.proofs.PendingOwedLemmas.{IsFrom, IsHeld, IsHeldAs, goes_held, is_ahead, waits_more}
-use Rattle.obligations.proofs.PendingOwedLemmas.{window_still}
+use Rattle.obligations.proofs.Vocabulary.{◌≡◌, ℕ, zero, suc, ◌+◌, ◌-◌, ◌<◌, ◌≤◌, Bool, true, false, List, [], ◌∷◌, ◌++◌, length, take, drop, Contains, Option, None, Some, inr, ⊎_elim, refl, sym, ap}
+use Rattle.obligations.proofs.Vocabulary.{subst, ◌∙◌, arith, length-append, take-suc, cases_lt, false≢true, append-nil, get_or-append-add, get_or_append_left, length-take-le, take-append-drop}
+use Rattle.obligations.proofs.Vocabulary.{take_all, All-weaker, same_Some, IsTrace, step_at, no_step, none_in_nil, IsIn, Valuation, Step, Sat, elapsed, Continuation, last_time, LastIsAtTheEnd, IsLost}
+use Rattle.obligations.proofs.Vocabulary.{IsAhead, IsOwed, LostStaysLost, OwedLeadsOn, OwedStaysOwed, FoundIsFirst, window_end, has_deadline, formula_for, interval_from_to, Plan, CausePlan}
+use Rattle.obligations.proofs.Vocabulary.{SuppressPlan, Both, Either, TestOr, Guarded, EventuallyPlan, AlwaysPlan, UntilPlan, NextPlan, StandsIn, IfElse, time_now, IsNeeded, Missing, last_position}
+use Rattle.obligations.proofs.Vocabulary.{SomethingMissedIsLost, time_behind, AtNode, PendingAfter, HasDeadline, IsClean, MissesAt, NoneIsOver, PendsBehind, node_of, PlansStand, Instance, Literal}
+use Rattle.obligations.proofs.PendingOwedLemmas.{IsFrom, IsHeld, IsHeldAs, goes_held, is_ahead, waits_more, window_still}
 use Rattle.obligations.proofs.MissingLeafLemmas.{no_cons}
 use Rattle.obligations.proofs.UniquenessLemmas.{pends_one}
 use Rattle.obligations.proofs.InstanceLeadLemmas.{left_stands, lost_here, right_stands}

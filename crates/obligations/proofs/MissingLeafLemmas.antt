@@ -1,8 +1,6 @@
 -- Leaves and rows that miss something.
-use Rattle.obligations.proofs.Vocabulary.{◌≡◌, ℕ, List, [], ◌∷◌, length, Contains, Option, None, Some}
-use Rattle.obligations.proofs.Vocabulary.{sym, ap, subst, arith, ⊎_elim, step_at, NameId, Step, Value, IsEventAmong}
-use Rattle.obligations.proofs.Vocabulary.{here, later, HasSome, IsAbsent, IsPresent, LiteralUnless, OfEvent}
-use Rattle.obligations.proofs.Vocabulary.{cause_literal, suppress_literal, Gathers, last_position, Literal}
+use Rattle.obligations.proofs.Vocabulary.{◌≡◌, ℕ, List, [], ◌∷◌, length, Contains, Option, None, Some, sym, ap, subst, arith, ⊎_elim, step_at, NameId, Step, Value, IsEventAmong, here, later, HasSome}
+use Rattle.obligations.proofs.Vocabulary.{IsAbsent, IsPresent, LiteralUnless, OfEvent, cause_literal, suppress_literal, Gathers, last_position, Literal}
 
 pub no_cons : {X : Type 0} (x : X) (xs : List X) → x ∷ xs ≡ [] → ⊥
 no_cons x xs same = let n : length (x ∷ xs) ≡ 0 = ap length same in omega arith

@@ -1,11 +1,7 @@
 -- Small traces with p() within ten units: what continues them, and what is owed.
-use Rattle.obligations.proofs.Vocabulary.{◌≡◌, ◌⊎◌, ℕ, zero, suc, ◌<◌, ◌≤◌, List, [], ◌∷◌}
-use Rattle.obligations.proofs.Vocabulary.{◌++◌, length, Contains, Some, inl, inr, ⊎_elim, refl, sym, ap, subst}
-use Rattle.obligations.proofs.Vocabulary.{◌∙◌, arith, slice_get, All-nil, All-from_recursion, IsTrace, step_at}
-use Rattle.obligations.proofs.Vocabulary.{first_or_later, none_in_nil, there_from_get, HasNoRepeats, IsIn, Valuation}
-use Rattle.obligations.proofs.Vocabulary.{Event, Step, one_event, at_time, event_p, elapsed, Continuation, LeadsThrough}
-use Rattle.obligations.proofs.Vocabulary.{LeadsTo, Obligation, obligation, interval_from_to, Plan, at_5, soon_p}
-use Rattle.obligations.proofs.Vocabulary.{cause_p}
+use Rattle.obligations.proofs.Vocabulary.{◌≡◌, ◌⊎◌, ℕ, zero, suc, ◌<◌, ◌≤◌, List, [], ◌∷◌, ◌++◌, length, Contains, Some, inl, inr, ⊎_elim, refl, sym, ap, subst, ◌∙◌, arith, slice_get, All-nil}
+use Rattle.obligations.proofs.Vocabulary.{All-from_recursion, IsTrace, step_at, first_or_later, none_in_nil, there_from_get, HasNoRepeats, IsIn, Valuation, Event, Step, one_event, at_time, event_p}
+use Rattle.obligations.proofs.Vocabulary.{elapsed, Continuation, LeadsThrough, LeadsTo, Obligation, obligation, interval_from_to, Plan, at_5, soon_p, cause_p}
 
 -- ---- continuations
 

@@ -1,7 +1,6 @@
 -- What a pending instance misses is what a part of its node misses.
-use Rattle.obligations.proofs.Vocabulary.{◌≡◌, ℕ, Bool, false, List, refl, sym, subst, inl, inr, Step, Plan}
-use Rattle.obligations.proofs.Vocabulary.{EventuallyPlan, AlwaysPlan, UntilPlan, NextPlan, CanAskPlan, IsNowOf}
-use Rattle.obligations.proofs.Vocabulary.{guards_at, LacksSome, IsInWindow, IsNowIn, AsksPart, Instance, Now}
+use Rattle.obligations.proofs.Vocabulary.{◌≡◌, ℕ, Bool, false, List, refl, sym, subst, inl, inr, Step, Plan, EventuallyPlan, AlwaysPlan, UntilPlan, NextPlan, CanAskPlan, IsNowOf, guards_at, LacksSome}
+use Rattle.obligations.proofs.Vocabulary.{IsInWindow, IsNowIn, AsksPart, Instance, Now}
 use Rattle.std.specs.Prelude.{IsTrue}
 use Rattle.obligations.proofs.WantedLiteralLemmas.{in_body, in_left, in_right}
 

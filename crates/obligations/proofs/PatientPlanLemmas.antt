@@ -1,7 +1,5 @@
 -- A plan after a test or under rows misses nothing at any step where its body does not.
-use Rattle.obligations.proofs.Vocabulary.{◌≡◌, ℕ, List, [], ◌∷◌, ◌++◌, ⊎_elim, ◌∙◌}
-use Rattle.obligations.proofs.Vocabulary.{with_values, VarId, Formula, Plan, TestOr, Guarded, Missing, Gathers}
-use Rattle.obligations.proofs.Vocabulary.{IsPatient, Literal}
+use Rattle.obligations.proofs.Vocabulary.{◌≡◌, ℕ, List, [], ◌∷◌, ◌++◌, ⊎_elim, ◌∙◌, with_values, VarId, Formula, Plan, TestOr, Guarded, Missing, Gathers, IsPatient, Literal}
 
 pub patient_test : (node guard : ℕ) (test : Formula) (body : Plan) → IsPatient body → IsPatient (TestOr node guard test body)
 patient_test node guard test body inner trace v literals missing =

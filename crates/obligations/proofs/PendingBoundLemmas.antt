@@ -1,21 +1,12 @@
 -- What is pending after a trace can be so: by induction over plans, and along the trace.
-use Rattle.obligations.proofs.Vocabulary.{◌≡◌, ◌∙◌, ℕ, zero, suc, ◌+◌, ◌-◌, ◌<◌, ◌≤◌}
-use Rattle.obligations.proofs.Vocabulary.{Bool, true, false, cond, List, [], ◌∷◌, ◌++◌, length, take}
-use Rattle.obligations.proofs.Vocabulary.{Contains, Option, None, Some, ⊎_elim, refl, sym, ap, subst, arith}
-use Rattle.obligations.proofs.Vocabulary.{slice_get, find, option_map, length-take-le, All-contains}
-use Rattle.obligations.proofs.Vocabulary.{All-contains_itself, All-weaker, Contains-append_left, Contains-append_right}
-use Rattle.obligations.proofs.Vocabulary.{none-some, same_Some, slice_get-get_or, slice_get-map}
-use Rattle.obligations.proofs.Vocabulary.{AllByRecursion-contains, Contains-append, first_or_later, here, later}
-use Rattle.obligations.proofs.Vocabulary.{none_in_nil, there_from_get, Valuation, no_values, variable_cmp, with_values}
-use Rattle.obligations.proofs.Vocabulary.{Step, VarId, Value, Formula, EndsInTime, AreWellFormed, IsWellFormed}
-use Rattle.obligations.proofs.Vocabulary.{has_deadline, has_future, has_number, is_future, nodes, node_number, node_in}
-use Rattle.obligations.proofs.Vocabulary.{nodes_of, Plan, CausePlan, SuppressPlan, Both, Either, TestOr, Guarded}
-use Rattle.obligations.proofs.Vocabulary.{EventuallyPlan, AlwaysPlan, UntilPlan, NextPlan, AtEach-below, AtEach-root}
-use Rattle.obligations.proofs.Vocabulary.{FoundIsFirst, NodesHaveScopes, AtEach, IsScopedNode, scoped_at, scoped_nodes}
-use Rattle.obligations.proofs.Vocabulary.{FitsScope, only_future, future_in, scoped_in_plan, BeginsAlways}
-use Rattle.obligations.proofs.Vocabulary.{BeginsOrWaits, Begun, WithBehind, begun_now, CanBePending, IsNext, first_end}
-use Rattle.obligations.proofs.Vocabulary.{second_end, PendCanBePending, After, AtNode, BecomesAt, HasDeadline}
-use Rattle.obligations.proofs.Vocabulary.{PendsBehind, Instance}
+use Rattle.obligations.proofs.Vocabulary.{◌≡◌, ◌∙◌, ℕ, zero, suc, ◌+◌, ◌-◌, ◌<◌, ◌≤◌, Bool, true, false, cond, List, [], ◌∷◌, ◌++◌, length, take, Contains, Option, None, Some, ⊎_elim, refl, sym, ap}
+use Rattle.obligations.proofs.Vocabulary.{subst, arith, slice_get, find, option_map, length-take-le, All-contains, All-contains_itself, All-weaker, Contains-append_left, Contains-append_right}
+use Rattle.obligations.proofs.Vocabulary.{none-some, same_Some, slice_get-get_or, slice_get-map, AllByRecursion-contains, Contains-append, first_or_later, here, later, none_in_nil, there_from_get}
+use Rattle.obligations.proofs.Vocabulary.{Valuation, no_values, variable_cmp, with_values, Step, VarId, Value, Formula, EndsInTime, AreWellFormed, IsWellFormed, has_deadline, has_future, has_number}
+use Rattle.obligations.proofs.Vocabulary.{is_future, nodes, node_number, node_in, nodes_of, Plan, CausePlan, SuppressPlan, Both, Either, TestOr, Guarded, EventuallyPlan, AlwaysPlan, UntilPlan}
+use Rattle.obligations.proofs.Vocabulary.{NextPlan, AtEach-below, AtEach-root, FoundIsFirst, NodesHaveScopes, AtEach, IsScopedNode, scoped_at, scoped_nodes, FitsScope, only_future, future_in}
+use Rattle.obligations.proofs.Vocabulary.{scoped_in_plan, BeginsAlways, BeginsOrWaits, Begun, WithBehind, begun_now, CanBePending, IsNext, first_end, second_end, PendCanBePending, After, AtNode}
+use Rattle.obligations.proofs.Vocabulary.{BecomesAt, HasDeadline, PendsBehind, Instance}
 use Rattle.obligations.proofs.GatheredLists.{BegunByRoots-contains, Gathers-contains}
 use Rattle.obligations.proofs.AskablePlanLemmas.{under_row}
 use Rattle.obligations.proofs.SoundnessLemmas.{taken}

@@ -1,16 +1,10 @@
 -- What a pending instance misses its node leads to.
-use Rattle.obligations.proofs.Vocabulary.{◌≡◌, ℕ, ◌+◌, ◌<◌, ◌≤◌, Bool, true, false, List, []}
-use Rattle.obligations.proofs.Vocabulary.{◌∷◌, ◌++◌, length, Contains, Option, Some, inl, inr, ⊎_elim, refl}
-use Rattle.obligations.proofs.Vocabulary.{sym, ap, subst, ◌∙◌, arith, length-append, get_or-append-add, step_at}
-use Rattle.obligations.proofs.Vocabulary.{no_step, none_in_nil, Step, LastIsAtTheEnd, EndsInTime, IsLost, IsAhead}
-use Rattle.obligations.proofs.Vocabulary.{obligation, LostStaysLost, LeadsOn, OwedLeadsOn, OwedStaysOwed, FoundIsFirst}
-use Rattle.obligations.proofs.Vocabulary.{has_deadline, Plan, CausePlan, SuppressPlan, Both, Either, TestOr, Guarded}
-use Rattle.obligations.proofs.Vocabulary.{EventuallyPlan, AlwaysPlan, UntilPlan, NextPlan, StandsIn, IfElse, time_now}
-use Rattle.obligations.proofs.Vocabulary.{ServesLiteral, Missing, last_position, SomethingMissedIsLost, AtNode}
-use Rattle.obligations.proofs.Vocabulary.{HasDeadline, IsClean, MissesAt, NoneIsOver, PendsBehind, node_of, PlansStand}
-use Rattle.obligations.proofs.Vocabulary.{Instance, Literal}
-use Rattle.obligations.proofs.PendingOwedLemmas.{IsFrom, IsHeldAs, from_start, is_ahead, lost_before, waits_more}
-use Rattle.obligations.proofs.PendingOwedLemmas.{window_still}
+use Rattle.obligations.proofs.Vocabulary.{◌≡◌, ℕ, ◌+◌, ◌<◌, ◌≤◌, Bool, true, false, List, [], ◌∷◌, ◌++◌, length, Contains, Option, Some, inl, inr, ⊎_elim, refl, sym, ap, subst, ◌∙◌, arith}
+use Rattle.obligations.proofs.Vocabulary.{length-append, get_or-append-add, step_at, no_step, none_in_nil, Step, LastIsAtTheEnd, EndsInTime, IsLost, IsAhead, obligation, LostStaysLost, LeadsOn}
+use Rattle.obligations.proofs.Vocabulary.{OwedLeadsOn, OwedStaysOwed, FoundIsFirst, has_deadline, Plan, CausePlan, SuppressPlan, Both, Either, TestOr, Guarded, EventuallyPlan, AlwaysPlan, UntilPlan}
+use Rattle.obligations.proofs.Vocabulary.{NextPlan, StandsIn, IfElse, time_now, ServesLiteral, Missing, last_position, SomethingMissedIsLost, AtNode, HasDeadline, IsClean, MissesAt, NoneIsOver}
+use Rattle.obligations.proofs.Vocabulary.{PendsBehind, node_of, PlansStand, Instance, Literal}
+use Rattle.obligations.proofs.PendingOwedLemmas.{IsFrom, IsHeldAs, from_start, is_ahead, lost_before, waits_more, window_still}
 use Rattle.obligations.proofs.LossLemmas.{front_ordered, held}
 use Rattle.obligations.proofs.InstanceLeadLemmas.{left_stands, right_stands}
 use Rattle.obligations.proofs.LiteralLeadLemmas.{missed_is_served, onto, served_at}

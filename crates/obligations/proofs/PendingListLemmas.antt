@@ -1,18 +1,11 @@
 -- What pending instances miss and become is a list, and what is begun and pending can be asked.
-use Rattle.obligations.proofs.Vocabulary.{◌≡◌, ℕ, zero, suc, ◌+◌, ◌<◌, ◌≤◌, Bool, true, false}
-use Rattle.obligations.proofs.Vocabulary.{List, [], ◌∷◌, ◌++◌, length, take, Some, refl, sym, subst, inl, inr}
-use Rattle.obligations.proofs.Vocabulary.{⊎_elim, ◌⊎◌, arith, AllByRecursion, cases_lt, false≢true}
-use Rattle.obligations.proofs.Vocabulary.{recursion_from_All, AllByRecursion-append, AllByRecursion-contains, Valuation}
-use Rattle.obligations.proofs.Vocabulary.{no_values, with_values, Step, VarId, Value, Formula, EndsInTime, has_future}
-use Rattle.obligations.proofs.Vocabulary.{is_future, nodes, node_in, Plan, CausePlan, SuppressPlan, Both, Either}
-use Rattle.obligations.proofs.Vocabulary.{TestOr, Guarded, EventuallyPlan, AlwaysPlan, UntilPlan, NextPlan}
-use Rattle.obligations.proofs.Vocabulary.{FoundIsFirst, IsNodeByNumber, StandsIn, CanAskPlan, CanAskIn, CanAskOf}
-use Rattle.obligations.proofs.Vocabulary.{CanAskRoots, FitsScope, BeginsOrWaits, Begun, LacksNothing, LacksSome, IfElse}
-use Rattle.obligations.proofs.Vocabulary.{WithBehind, begun_now, time_now, Missing, Gathers, AfterExists, BegunExists}
-use Rattle.obligations.proofs.Vocabulary.{PendingAfterExists, MissingExists, MissingOfExists, PendExists}
-use Rattle.obligations.proofs.Vocabulary.{BegunCanBeAsked, PendingAfterCanBeAsked, PendCanBeAsked, After, AtNode}
-use Rattle.obligations.proofs.Vocabulary.{BecomesAt, BeginsInWindow, BegunByRoots, PendingAfter, IsNowIn, MissesAt}
-use Rattle.obligations.proofs.Vocabulary.{PendsBehind, PlansStand, Instance}
+use Rattle.obligations.proofs.Vocabulary.{◌≡◌, ℕ, zero, suc, ◌+◌, ◌<◌, ◌≤◌, Bool, true, false, List, [], ◌∷◌, ◌++◌, length, take, Some, refl, sym, subst, inl, inr, ⊎_elim, ◌⊎◌, arith, AllByRecursion}
+use Rattle.obligations.proofs.Vocabulary.{cases_lt, false≢true, recursion_from_All, AllByRecursion-append, AllByRecursion-contains, Valuation, no_values, with_values, Step, VarId, Value, Formula}
+use Rattle.obligations.proofs.Vocabulary.{EndsInTime, has_future, is_future, nodes, node_in, Plan, CausePlan, SuppressPlan, Both, Either, TestOr, Guarded, EventuallyPlan, AlwaysPlan, UntilPlan}
+use Rattle.obligations.proofs.Vocabulary.{NextPlan, FoundIsFirst, IsNodeByNumber, StandsIn, CanAskPlan, CanAskIn, CanAskOf, CanAskRoots, FitsScope, BeginsOrWaits, Begun, LacksNothing, LacksSome}
+use Rattle.obligations.proofs.Vocabulary.{IfElse, WithBehind, begun_now, time_now, Missing, Gathers, AfterExists, BegunExists, PendingAfterExists, MissingExists, MissingOfExists, PendExists}
+use Rattle.obligations.proofs.Vocabulary.{BegunCanBeAsked, PendingAfterCanBeAsked, PendCanBeAsked, After, AtNode, BecomesAt, BeginsInWindow, BegunByRoots, PendingAfter, IsNowIn, MissesAt, PendsBehind}
+use Rattle.obligations.proofs.Vocabulary.{PlansStand, Instance}
 use Rattle.std.proofs.Common.{slice_get}
 use Rattle.obligations.proofs.AdditionLemmas.{gathers_exist}
 use Rattle.obligations.proofs.AskablePlanLemmas.{under_row}

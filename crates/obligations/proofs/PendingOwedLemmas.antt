@@ -1,16 +1,10 @@
 -- What is pending is owed, and waits for what is lost so far: by induction along a trace.
-use Rattle.obligations.proofs.Vocabulary.{◌≡◌, ◌⊎◌, ℕ, ◌+◌, ◌<◌, ◌≤◌, true, List, []}
-use Rattle.obligations.proofs.Vocabulary.{◌∷◌, ◌++◌, length, All, Contains, Option, Some, inl, inr, ⊎_elim}
-use Rattle.obligations.proofs.Vocabulary.{refl, sym, ap, subst, ◌∙◌, arith, length-append, AllByRecursion}
-use Rattle.obligations.proofs.Vocabulary.{cases_lt, get_or_append_left, step_at, no_step, Contains-append}
-use Rattle.obligations.proofs.Vocabulary.{first_or_later, none_in_nil, IsIn, Valuation, no_values, Step, elapsed}
-use Rattle.obligations.proofs.Vocabulary.{GuardLooksBack, IsLost, IsAhead, IsOwed, LeadsTo, WasLost, obligation}
-use Rattle.obligations.proofs.Vocabulary.{LostStaysLost, OwedLeadsOn, OwedStaysOwed, FoundIsFirst, has_deadline, nodes}
-use Rattle.obligations.proofs.Vocabulary.{node_number, node_in, interval_from_to, Plan, CausePlan, SuppressPlan, Both}
-use Rattle.obligations.proofs.Vocabulary.{Either, TestOr, Guarded, EventuallyPlan, AlwaysPlan, UntilPlan, NextPlan}
-use Rattle.obligations.proofs.Vocabulary.{StandsIn, Begun, LacksSome, WithBehind, time_now, last_position}
-use Rattle.obligations.proofs.Vocabulary.{SomethingMissedIsLost, After, AtNode, BecomesAt, PendingAfter, HasDeadline}
-use Rattle.obligations.proofs.Vocabulary.{IsInWindow, IsNowIn, NoneIsOver, node_of, IsBegunBy, PlansStand, Instance}
+use Rattle.obligations.proofs.Vocabulary.{◌≡◌, ◌⊎◌, ℕ, ◌+◌, ◌<◌, ◌≤◌, true, List, [], ◌∷◌, ◌++◌, length, All, Contains, Option, Some, inl, inr, ⊎_elim, refl, sym, ap, subst, ◌∙◌, arith, length-append}
+use Rattle.obligations.proofs.Vocabulary.{AllByRecursion, cases_lt, get_or_append_left, step_at, no_step, Contains-append, first_or_later, none_in_nil, IsIn, Valuation, no_values, Step, elapsed}
+use Rattle.obligations.proofs.Vocabulary.{GuardLooksBack, IsLost, IsAhead, IsOwed, LeadsTo, WasLost, obligation, LostStaysLost, OwedLeadsOn, OwedStaysOwed, FoundIsFirst, has_deadline, nodes}
+use Rattle.obligations.proofs.Vocabulary.{node_number, node_in, interval_from_to, Plan, CausePlan, SuppressPlan, Both, Either, TestOr, Guarded, EventuallyPlan, AlwaysPlan, UntilPlan, NextPlan}
+use Rattle.obligations.proofs.Vocabulary.{StandsIn, Begun, LacksSome, WithBehind, time_now, last_position, SomethingMissedIsLost, After, AtNode, BecomesAt, PendingAfter, HasDeadline, IsInWindow}
+use Rattle.obligations.proofs.Vocabulary.{IsNowIn, NoneIsOver, node_of, IsBegunBy, PlansStand, Instance}
 use Rattle.std.proofs.Common.{slice_get}
 use Rattle.obligations.proofs.GatheredLists.{BegunByRoots-contains, Gathers-contains}
 use Rattle.obligations.proofs.SoundnessLemmas.{all_right}

@@ -1,8 +1,6 @@
 -- What an instance of each node becomes, by what is asked of its parts.
-use Rattle.obligations.proofs.Vocabulary.{◌≡◌, ℕ, true, false, Some, inl, inr, refl, subst, false≢true}
-use Rattle.obligations.proofs.Vocabulary.{none-some, same_Some, Plan, CausePlan, SuppressPlan, Both, Either, TestOr}
-use Rattle.obligations.proofs.Vocabulary.{Guarded, EventuallyPlan, AlwaysPlan, UntilPlan, NextPlan, TellsNothing}
-use Rattle.obligations.proofs.Vocabulary.{CanAskPlan, guards_at, WillBecome, awaited_in, IsInWindow, Instance, Now}
+use Rattle.obligations.proofs.Vocabulary.{◌≡◌, ℕ, true, false, Some, inl, inr, refl, subst, false≢true, none-some, same_Some, Plan, CausePlan, SuppressPlan, Both, Either, TestOr, Guarded}
+use Rattle.obligations.proofs.Vocabulary.{EventuallyPlan, AlwaysPlan, UntilPlan, NextPlan, TellsNothing, CanAskPlan, guards_at, WillBecome, awaited_in, IsInWindow, Instance, Now}
 use Rattle.obligations.proofs.PartLemmas.{MissesRight, in_window_now}
 use Rattle.obligations.proofs.WantedLiteralLemmas.{in_body, in_left, in_right}
 

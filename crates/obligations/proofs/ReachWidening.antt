@@ -1,6 +1,5 @@
 -- With more events, as many nodes are reached.
-use Rattle.obligations.proofs.Vocabulary.{Event, NameId, Step, ⊎_elim, inl, inr, Plan, CausePlan, SuppressPlan, Both}
-use Rattle.obligations.proofs.Vocabulary.{Either, TestOr, Guarded, EventuallyPlan, AlwaysPlan, UntilPlan, NextPlan}
+use Rattle.obligations.proofs.Vocabulary.{Event, NameId, Step, ⊎_elim, inl, inr, Plan, CausePlan, SuppressPlan, Both, Either, TestOr, Guarded, EventuallyPlan, AlwaysPlan, UntilPlan, NextPlan}
 use Rattle.obligations.proofs.Vocabulary.{triggers, AreMetBy, last_events, IsReachedBy}
 use Rattle.std.specs.Prelude.{List, Option, Contains, None, Some, ◌⊎◌}
 

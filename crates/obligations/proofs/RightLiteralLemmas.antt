@@ -1,17 +1,10 @@
 -- What is missed is of right values, where guards give such: by induction over plans.
-use Rattle.obligations.proofs.Vocabulary.{◌≡◌, ℕ, zero, suc, ◌+◌, ◌-◌, ◌<◌, Bool, true, false, List}
-use Rattle.obligations.proofs.Vocabulary.{[], ◌∷◌, ◌++◌, length, take, Contains, Option, None, Some, ⊎_elim}
-use Rattle.obligations.proofs.Vocabulary.{refl, sym, subst, arith, length-append, take_all, All-contains}
-use Rattle.obligations.proofs.Vocabulary.{Contains-append_left, Contains-append_right, AllByRecursion-contains}
-use Rattle.obligations.proofs.Vocabulary.{Contains-append, first_or_later, here, later, none_in_nil, Valuation}
-use Rattle.obligations.proofs.Vocabulary.{values_of_terms, with_values, Event, NameId, Step, Term, VarId, Value}
-use Rattle.obligations.proofs.Vocabulary.{as_many_values, Plan, CausePlan, SuppressPlan, Both, Either, TestOr, Guarded}
-use Rattle.obligations.proofs.Vocabulary.{EventuallyPlan, AlwaysPlan, UntilPlan, NextPlan, AtEach-below, AtEach-found}
-use Rattle.obligations.proofs.Vocabulary.{AtEach-root, FoundIsFirst, NodesHaveScopes, AtEach, scoped_nodes, IfElse}
-use Rattle.obligations.proofs.Vocabulary.{IsAbsent, IsPresent, LiteralUnless, Missing, MissesAlways, MissesUntil}
-use Rattle.obligations.proofs.Vocabulary.{OfEvent, cause_literal, suppress_literal, HoldsLast, AtNode, MissesAt}
-use Rattle.obligations.proofs.Vocabulary.{AreRight, GivesRight, IsRightLiteral, MissedIsRight, MissedOfIsRight}
-use Rattle.obligations.proofs.Vocabulary.{Instance, Literal}
+use Rattle.obligations.proofs.Vocabulary.{◌≡◌, ℕ, zero, suc, ◌+◌, ◌-◌, ◌<◌, Bool, true, false, List, [], ◌∷◌, ◌++◌, length, take, Contains, Option, None, Some, ⊎_elim, refl, sym, subst, arith}
+use Rattle.obligations.proofs.Vocabulary.{length-append, take_all, All-contains, Contains-append_left, Contains-append_right, AllByRecursion-contains, Contains-append, first_or_later, here, later}
+use Rattle.obligations.proofs.Vocabulary.{none_in_nil, Valuation, values_of_terms, with_values, Event, NameId, Step, Term, VarId, Value, as_many_values, Plan, CausePlan, SuppressPlan, Both, Either}
+use Rattle.obligations.proofs.Vocabulary.{TestOr, Guarded, EventuallyPlan, AlwaysPlan, UntilPlan, NextPlan, AtEach-below, AtEach-found, AtEach-root, FoundIsFirst, NodesHaveScopes, AtEach}
+use Rattle.obligations.proofs.Vocabulary.{scoped_nodes, IfElse, IsAbsent, IsPresent, LiteralUnless, Missing, MissesAlways, MissesUntil, OfEvent, cause_literal, suppress_literal, HoldsLast, AtNode}
+use Rattle.obligations.proofs.Vocabulary.{MissesAt, AreRight, GivesRight, IsRightLiteral, MissedIsRight, MissedOfIsRight, Instance, Literal}
 use Rattle.obligations.proofs.GatheredLists.{Gathers-contains}
 use Rattle.obligations.proofs.PendingBoundLemmas.{each_from_nodes, named_node, node_in_plan}
 use Rattle.obligations.proofs.RightValueLemmas.{pends_right}

@@ -1,14 +1,9 @@
 -- What is pending has right values, where guards give such: by induction over plans, and along the trace.
-use Rattle.obligations.proofs.Vocabulary.{◌≡◌, ◌∙◌, ℕ, zero, suc, ◌+◌, ◌<◌, ◌≤◌, Bool, true}
-use Rattle.obligations.proofs.Vocabulary.{cond, List, [], ◌∷◌, ◌++◌, length, take, Contains, None, Some}
-use Rattle.obligations.proofs.Vocabulary.{⊎_elim, refl, sym, ap, subst, arith, All-contains, same_Some}
-use Rattle.obligations.proofs.Vocabulary.{Contains-append, first_or_later, none_in_nil, Valuation, no_values}
-use Rattle.obligations.proofs.Vocabulary.{with_values, Step, VarId, Value, Formula, has_future, is_future, node_number}
-use Rattle.obligations.proofs.Vocabulary.{Plan, CausePlan, SuppressPlan, Both, Either, TestOr, Guarded, EventuallyPlan}
-use Rattle.obligations.proofs.Vocabulary.{AlwaysPlan, UntilPlan, NextPlan, AtEach-root, FoundIsFirst, NodesHaveScopes}
-use Rattle.obligations.proofs.Vocabulary.{AtEach, only_future, future_in, AreWellFormed, BeginsAlways, BeginsOrWaits}
-use Rattle.obligations.proofs.Vocabulary.{Begun, WithBehind, begun_now, first_end, second_end, After, AtNode, BecomesAt}
-use Rattle.obligations.proofs.Vocabulary.{PendsBehind, AreRight, GivesRight, GuardsGiveRight, PendingIsRight, Instance}
+use Rattle.obligations.proofs.Vocabulary.{◌≡◌, ◌∙◌, ℕ, zero, suc, ◌+◌, ◌<◌, ◌≤◌, Bool, true, cond, List, [], ◌∷◌, ◌++◌, length, take, Contains, None, Some, ⊎_elim, refl, sym, ap, subst, arith}
+use Rattle.obligations.proofs.Vocabulary.{All-contains, same_Some, Contains-append, first_or_later, none_in_nil, Valuation, no_values, with_values, Step, VarId, Value, Formula, has_future, is_future}
+use Rattle.obligations.proofs.Vocabulary.{node_number, Plan, CausePlan, SuppressPlan, Both, Either, TestOr, Guarded, EventuallyPlan, AlwaysPlan, UntilPlan, NextPlan, AtEach-root, FoundIsFirst}
+use Rattle.obligations.proofs.Vocabulary.{NodesHaveScopes, AtEach, only_future, future_in, AreWellFormed, BeginsAlways, BeginsOrWaits, Begun, WithBehind, begun_now, first_end, second_end, After}
+use Rattle.obligations.proofs.Vocabulary.{AtNode, BecomesAt, PendsBehind, AreRight, GivesRight, GuardsGiveRight, PendingIsRight, Instance}
 use Rattle.obligations.proofs.GatheredLists.{BegunByRoots-contains, Gathers-contains}
 use Rattle.obligations.proofs.PendingBoundLemmas.{Lies, all_lie, named_node}
 use Rattle.obligations.proofs.SoundnessLemmas.{taken}

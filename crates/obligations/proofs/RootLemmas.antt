@@ -1,11 +1,7 @@
 -- What stays in front, and what roots begin, one after another.
-use Rattle.obligations.proofs.Vocabulary.{◌≡◌, Contains, ⊎_elim, ℕ, suc, ◌+◌, ◌<◌, List, []}
-use Rattle.obligations.proofs.Vocabulary.{◌∷◌, ◌++◌, length, map, take, get_or, Some, refl, sym, ap, subst}
-use Rattle.obligations.proofs.Vocabulary.{arith, ◌∙◌, append_assoc, slice_get, AllByRecursion, append-nil}
-use Rattle.obligations.proofs.Vocabulary.{length-map, length-take-le, map_more, AllByRecursion-append}
-use Rattle.obligations.proofs.Vocabulary.{AllByRecursion-contains, Contains-append, no_values, Step, Plan, StandsIn}
-use Rattle.obligations.proofs.Vocabulary.{AddsAsked, IsBegunHere, IsNowOf, guards_at, Begun, ComesOfRoot, BegunByRoots}
-use Rattle.obligations.proofs.Vocabulary.{CanAskOf, Instance, Now}
+use Rattle.obligations.proofs.Vocabulary.{◌≡◌, Contains, ⊎_elim, ℕ, suc, ◌+◌, ◌<◌, List, [], ◌∷◌, ◌++◌, length, map, take, get_or, Some, refl, sym, ap, subst, arith, ◌∙◌, append_assoc, slice_get}
+use Rattle.obligations.proofs.Vocabulary.{AllByRecursion, append-nil, length-map, length-take-le, map_more, AllByRecursion-append, AllByRecursion-contains, Contains-append, no_values, Step, Plan}
+use Rattle.obligations.proofs.Vocabulary.{StandsIn, AddsAsked, IsBegunHere, IsNowOf, guards_at, Begun, ComesOfRoot, BegunByRoots, CanAskOf, Instance, Now}
 
 -- one root more
 roots_more : (trace : List Step) (rule : ℕ) (ps : List Plan) (p : Plan) (xs ys : List Instance) → BegunByRoots trace rule ps xs

@@ -1,6 +1,5 @@
 -- A guard has one list of rows.
-use Rattle.obligations.proofs.Vocabulary.{◌≡◌, List, Contains, length, All-contains, same_rising, Value}
-use Rattle.obligations.proofs.Vocabulary.{row_cmp_total, AreGuardRows, RowsAreOne}
+use Rattle.obligations.proofs.Vocabulary.{◌≡◌, List, Contains, length, All-contains, same_rising, Value, row_cmp_total, AreGuardRows, RowsAreOne}
 
 pub rows_are_one : RowsAreOne
 rows_are_one trace v xs guard rows others are too =

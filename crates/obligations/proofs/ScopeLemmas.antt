@@ -1,8 +1,6 @@
 -- How the variables in scope at a node are found.
-use Rattle.obligations.proofs.Vocabulary.{Result, Ok, Err, IfOk, ◌≡◌, ℕ, Bool, true, false, cond, List}
-use Rattle.obligations.proofs.Vocabulary.{◌∷◌, ◌++◌, Option, Some, None, ap, subst, ◌∙◌, find}
-use Rattle.obligations.proofs.Vocabulary.{option_map, option_or, find-append, VarId, has_number, Plan, scoped_at}
-use Rattle.obligations.proofs.Vocabulary.{scoped_nodes, FindsScope}
+use Rattle.obligations.proofs.Vocabulary.{Result, Ok, Err, IfOk, ◌≡◌, ℕ, Bool, true, false, cond, List, ◌∷◌, ◌++◌, Option, Some, None, ap, subst, ◌∙◌, find, option_map, option_or, find-append, VarId}
+use Rattle.obligations.proofs.Vocabulary.{has_number, Plan, scoped_at, scoped_nodes, FindsScope}
 
 abbrev Scoped : Type 0
 Scoped = Plan × List VarId

@@ -1,19 +1,11 @@
 -- That nothing is missed at a step, and what is begun there is met after it, is enough: by induction over plans.
-use Rattle.obligations.proofs.Vocabulary.{◌≡◌, ℕ, zero, suc, ◌+◌, ◌<◌, ◌≤◌, Bool, true, false}
-use Rattle.obligations.proofs.Vocabulary.{List, [], ◌∷◌, ◌++◌, length, Contains, Option, None, Some, IsTrue}
-use Rattle.obligations.proofs.Vocabulary.{refl, sym, ap, subst, arith, inl, inr, ⊎_elim, ◌⊎◌, length-append}
-use Rattle.obligations.proofs.Vocabulary.{AllByRecursion, cases_lt, All-contains, get_or_append_left, step_at, no_step}
-use Rattle.obligations.proofs.Vocabulary.{Valuation, values_of_terms, with_values, NameId, Step, VarId, Value, Formula}
-use Rattle.obligations.proofs.Vocabulary.{HoldsUntil, IsEventAmong, Sat, elapsed, PastDecides, is_past, IsIn}
-use Rattle.obligations.proofs.Vocabulary.{AllByRecursion-contains, nil_not_cons, has_future, nodes, node_number}
-use Rattle.obligations.proofs.Vocabulary.{has_deadline, formula_for, interval_from_to, Plan, CausePlan, SuppressPlan}
-use Rattle.obligations.proofs.Vocabulary.{Both, Either, TestOr, Guarded, EventuallyPlan, AlwaysPlan, UntilPlan}
-use Rattle.obligations.proofs.Vocabulary.{NextPlan, Begun, LacksNothing, LacksSome, TakesOrElse, IfElse, begun_now}
-use Rattle.obligations.proofs.Vocabulary.{time_now, Missing, HasSome, IsAbsent, IsPresent, LiteralUnless, MissesEither}
-use Rattle.obligations.proofs.Vocabulary.{MissesUntil, OfEvent, cause_literal, suppress_literal, Gathers, last_position}
-use Rattle.obligations.proofs.Vocabulary.{GuardLooksBack, IsNodeByNumber, MissingIsOne, RowsAreOne, AtNode, BecomesAt}
-use Rattle.obligations.proofs.Vocabulary.{IsNowIn, MissesAt, node_of, Residual, OwesAt, IsPositionLeft, Instance}
-use Rattle.obligations.proofs.Vocabulary.{Literal}
+use Rattle.obligations.proofs.Vocabulary.{◌≡◌, ℕ, zero, suc, ◌+◌, ◌<◌, ◌≤◌, Bool, true, false, List, [], ◌∷◌, ◌++◌, length, Contains, Option, None, Some, IsTrue, refl, sym, ap, subst, arith, inl, inr}
+use Rattle.obligations.proofs.Vocabulary.{⊎_elim, ◌⊎◌, length-append, AllByRecursion, cases_lt, All-contains, get_or_append_left, step_at, no_step, Valuation, values_of_terms, with_values, NameId}
+use Rattle.obligations.proofs.Vocabulary.{Step, VarId, Value, Formula, HoldsUntil, IsEventAmong, Sat, elapsed, PastDecides, is_past, IsIn, AllByRecursion-contains, nil_not_cons, has_future, nodes}
+use Rattle.obligations.proofs.Vocabulary.{node_number, has_deadline, formula_for, interval_from_to, Plan, CausePlan, SuppressPlan, Both, Either, TestOr, Guarded, EventuallyPlan, AlwaysPlan, UntilPlan}
+use Rattle.obligations.proofs.Vocabulary.{NextPlan, Begun, LacksNothing, LacksSome, TakesOrElse, IfElse, begun_now, time_now, Missing, HasSome, IsAbsent, IsPresent, LiteralUnless, MissesEither}
+use Rattle.obligations.proofs.Vocabulary.{MissesUntil, OfEvent, cause_literal, suppress_literal, Gathers, last_position, GuardLooksBack, IsNodeByNumber, MissingIsOne, RowsAreOne, AtNode, BecomesAt}
+use Rattle.obligations.proofs.Vocabulary.{IsNowIn, MissesAt, node_of, Residual, OwesAt, IsPositionLeft, Instance, Literal}
 use Rattle.obligations.proofs.MissingLeafLemmas.{cause_absent, no_cons, some_row, suppress_present}
 
 pub nil_left : {X : Type 0} (xs ys : List X) → [] ≡ xs ++ ys → xs ≡ []

@@ -1,13 +1,8 @@
 -- What instances become, one after another, and their deadlines.
-use Rattle.obligations.proofs.Vocabulary.{◌≡◌, ◌⊎◌, ◌∙◌, Contains, inl, inr, ⊎_elim, ℕ, Bool}
-use Rattle.obligations.proofs.Vocabulary.{true, false, cond, List, [], ◌∷◌, ◌++◌, Option, Some, None, ap}
-use Rattle.obligations.proofs.Vocabulary.{refl, subst, sym, IfSome, AllByRecursion, none-some, same_Some}
-use Rattle.obligations.proofs.Vocabulary.{AllByRecursion-contains, AllByRecursion-from_contains, Contains-append}
-use Rattle.obligations.proofs.Vocabulary.{first_or_later, none_in_nil, Step, GuardLooksBack, EndsInTime, has_deadline}
-use Rattle.obligations.proofs.Vocabulary.{nodes, Plan, FoundIsFirst, IsNodeByNumber, StandsIn, AddsAsked, IsBegunHere}
-use Rattle.obligations.proofs.Vocabulary.{IsNowOf, guards_at, AreServed, BegunFor, IsInstanceServed, WillBecome}
-use Rattle.obligations.proofs.Vocabulary.{is_forced_at, ComesOf, IsAskedPart, HasPart, After, AtNode, BecomesAt}
-use Rattle.obligations.proofs.Vocabulary.{node_of, PlansStand, CanAskOf, Instance, Now}
+use Rattle.obligations.proofs.Vocabulary.{◌≡◌, ◌⊎◌, ◌∙◌, Contains, inl, inr, ⊎_elim, ℕ, Bool, true, false, cond, List, [], ◌∷◌, ◌++◌, Option, Some, None, ap, refl, subst, sym, IfSome, AllByRecursion}
+use Rattle.obligations.proofs.Vocabulary.{none-some, same_Some, AllByRecursion-contains, AllByRecursion-from_contains, Contains-append, first_or_later, none_in_nil, Step, GuardLooksBack, EndsInTime}
+use Rattle.obligations.proofs.Vocabulary.{has_deadline, nodes, Plan, FoundIsFirst, IsNodeByNumber, StandsIn, AddsAsked, IsBegunHere, IsNowOf, guards_at, AreServed, BegunFor, IsInstanceServed}
+use Rattle.obligations.proofs.Vocabulary.{WillBecome, is_forced_at, ComesOf, IsAskedPart, HasPart, After, AtNode, BecomesAt, node_of, PlansStand, CanAskOf, Instance, Now}
 use Rattle.obligations.proofs.TraceLemmas.{stands_found}
 
 -- what was put in an empty list can be asked

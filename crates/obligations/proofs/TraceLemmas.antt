@@ -1,19 +1,11 @@
 -- That it is enough to meet what is pending after a clean trace: from its last step to its first.
-use Rattle.obligations.proofs.Vocabulary.{◌≡◌, ℕ, zero, suc, ◌+◌, ◌<◌, ◌≤◌, false, List, []}
-use Rattle.obligations.proofs.Vocabulary.{◌∷◌, ◌++◌, length, take, drop, Option, None, Some, length-append}
-use Rattle.obligations.proofs.Vocabulary.{refl, sym, ap, subst, ◌∙◌, arith, ⊎_elim, append_assoc}
-use Rattle.obligations.proofs.Vocabulary.{AllByRecursion, find, option_map, cases_lt, false≢true, length-take-le}
-use Rattle.obligations.proofs.Vocabulary.{take-append-drop, take-append-le, take_all, All-cons, All-nil}
-use Rattle.obligations.proofs.Vocabulary.{recursion_from_All, none-some, same_Some, IsTrace, Valuation, no_values}
-use Rattle.obligations.proofs.Vocabulary.{with_values, Step, VarId, Value, PastDecides, Sat, has_future, has_number}
-use Rattle.obligations.proofs.Vocabulary.{nodes, nodes_of, formula_for, Plan, CausePlan, SuppressPlan, Both, Either}
-use Rattle.obligations.proofs.Vocabulary.{TestOr, Guarded, EventuallyPlan, AlwaysPlan, UntilPlan, NextPlan}
-use Rattle.obligations.proofs.Vocabulary.{AtEach-found, AtEach-from_nodes, AtEach-nodes, FoundIsFirst, scoped_at}
-use Rattle.obligations.proofs.Vocabulary.{last_time, LastIsAtTheEnd, Begun, LacksNothing, time_now, Gathers}
-use Rattle.obligations.proofs.Vocabulary.{last_position, GuardLooksBack, IsNodeByNumber, StandsIn, After, AtNode}
-use Rattle.obligations.proofs.Vocabulary.{BecomesAt, BegunByRoots, PendingAfter, HasDeadline, IsClean, IsCleanAt}
-use Rattle.obligations.proofs.Vocabulary.{MissingOf, PendsBehind, node_of, Residual, AllHold, PendingIsEnough}
-use Rattle.obligations.proofs.Vocabulary.{CleanGrows, NothingIsPending, PendGrows, LooksAtNow, PlansStand, Instance}
+use Rattle.obligations.proofs.Vocabulary.{◌≡◌, ℕ, zero, suc, ◌+◌, ◌<◌, ◌≤◌, false, List, [], ◌∷◌, ◌++◌, length, take, drop, Option, None, Some, length-append, refl, sym, ap, subst, ◌∙◌, arith, ⊎_elim}
+use Rattle.obligations.proofs.Vocabulary.{append_assoc, AllByRecursion, find, option_map, cases_lt, false≢true, length-take-le, take-append-drop, take-append-le, take_all, All-cons, All-nil}
+use Rattle.obligations.proofs.Vocabulary.{recursion_from_All, none-some, same_Some, IsTrace, Valuation, no_values, with_values, Step, VarId, Value, PastDecides, Sat, has_future, has_number, nodes}
+use Rattle.obligations.proofs.Vocabulary.{nodes_of, formula_for, Plan, CausePlan, SuppressPlan, Both, Either, TestOr, Guarded, EventuallyPlan, AlwaysPlan, UntilPlan, NextPlan, AtEach-found}
+use Rattle.obligations.proofs.Vocabulary.{AtEach-from_nodes, AtEach-nodes, FoundIsFirst, scoped_at, last_time, LastIsAtTheEnd, Begun, LacksNothing, time_now, Gathers, last_position, GuardLooksBack}
+use Rattle.obligations.proofs.Vocabulary.{IsNodeByNumber, StandsIn, After, AtNode, BecomesAt, BegunByRoots, PendingAfter, HasDeadline, IsClean, IsCleanAt, MissingOf, PendsBehind, node_of, Residual}
+use Rattle.obligations.proofs.Vocabulary.{AllHold, PendingIsEnough, CleanGrows, NothingIsPending, PendGrows, LooksAtNow, PlansStand, Instance}
 use Rattle.std.proofs.Common.{slice_get}
 use Rattle.obligations.proofs.SoundnessLemmas.{all_left, all_right, taken}
 use Rattle.obligations.proofs.LawLemmas.{nothing_missed_is_enough, nothing_missed_is_enough_pending}

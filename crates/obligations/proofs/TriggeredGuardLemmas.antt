@@ -1,13 +1,8 @@
 -- Where a guard holds by its tables, whatever they are, it is triggered at the step.
-use Rattle.obligations.proofs.Vocabulary.{◌≡◌, ◌⊎◌, ℕ, true, false, Bool, List, [], ◌∷◌, ◌++◌}
-use Rattle.obligations.proofs.Vocabulary.{Option, None, Some, Contains, nat_eq, refl, sym, ap, subst, inl, inr}
-use Rattle.obligations.proofs.Vocabulary.{⊎_elim, Decides, unsigned_Decides, option_or, false≢true}
-use Rattle.obligations.proofs.Vocabulary.{Contains-append_left, Contains-append_right, Contains-push, list_any-Decides}
-use Rattle.obligations.proofs.Vocabulary.{first_or_later, here, later, none_in_nil, Valuation, values_of_terms}
-use Rattle.obligations.proofs.Vocabulary.{with_values, Event, NameId, VarId, Value, Formula, Atom, And, Or, Exists}
-use Rattle.obligations.proofs.Vocabulary.{Classically, IsEventAmong, AreNewVariables, AreOpen, HoldsNow, tables_beyond}
-use Rattle.obligations.proofs.Vocabulary.{AreEvaluated, HasOpenColumns, of_each, triggers, IsTable, Relation, FitsScope}
-use Rattle.obligations.proofs.Vocabulary.{IsGuardAt, guards_at, AreMetBy, Now}
+use Rattle.obligations.proofs.Vocabulary.{◌≡◌, ◌⊎◌, ℕ, true, false, Bool, List, [], ◌∷◌, ◌++◌, Option, None, Some, Contains, nat_eq, refl, sym, ap, subst, inl, inr, ⊎_elim, Decides, unsigned_Decides}
+use Rattle.obligations.proofs.Vocabulary.{option_or, false≢true, Contains-append_left, Contains-append_right, Contains-push, list_any-Decides, first_or_later, here, later, none_in_nil, Valuation}
+use Rattle.obligations.proofs.Vocabulary.{values_of_terms, with_values, Event, NameId, VarId, Value, Formula, Atom, And, Or, Exists, Classically, IsEventAmong, AreNewVariables, AreOpen, HoldsNow}
+use Rattle.obligations.proofs.Vocabulary.{tables_beyond, AreEvaluated, HasOpenColumns, of_each, triggers, IsTable, Relation, FitsScope, IsGuardAt, guards_at, AreMetBy, Now}
 use Rattle.obligations.proofs.AskablePlanLemmas.{row_holds}
 
 -- ---- events of some names

@@ -1,23 +1,13 @@
 -- What is missed and begun at a step is below guards that are triggered there: by induction over plans.
-use Rattle.obligations.proofs.Vocabulary.{◌≡◌, ◌⊎◌, ℕ, zero, suc, ◌+◌, ◌<◌, ◌≤◌, List, []}
-use Rattle.obligations.proofs.Vocabulary.{◌∷◌, ◌++◌, length, take, drop, Contains, Option, None, Some}
-use Rattle.obligations.proofs.Vocabulary.{length-append, refl, sym, ap, subst, ◌∙◌, arith, inl, inr, ⊎_elim}
-use Rattle.obligations.proofs.Vocabulary.{length-take-le, take-append-drop, AllByRecursion, All-contains}
-use Rattle.obligations.proofs.Vocabulary.{Contains-append_left, Contains-append_right, step_at, AllByRecursion-contains}
-use Rattle.obligations.proofs.Vocabulary.{AllByRecursion-from_contains, Contains-append, first_or_later, here, later}
-use Rattle.obligations.proofs.Vocabulary.{none_in_nil, Valuation, no_values, values_of_terms, with_values, Event}
-use Rattle.obligations.proofs.Vocabulary.{NameId, Step, Term, VarId, Value, as_many_values, Formula, GuardLooksBack}
-use Rattle.obligations.proofs.Vocabulary.{has_future, nodes, node_number, node_in, Plan, CausePlan, SuppressPlan, Both}
-use Rattle.obligations.proofs.Vocabulary.{Either, TestOr, Guarded, EventuallyPlan, AlwaysPlan, UntilPlan, NextPlan}
-use Rattle.obligations.proofs.Vocabulary.{triggers, FoundIsFirst, TriggersAreMet, IsNodeByNumber, StandsIn, from_one}
-use Rattle.obligations.proofs.Vocabulary.{Begun, BeginsAlways, BeginsOrWaits, LacksNothing, WithBehind, begun_now}
-use Rattle.obligations.proofs.Vocabulary.{time_now, Missing, MissesAlways, MissesUntil, IsAbsent, IsPresent}
-use Rattle.obligations.proofs.Vocabulary.{LiteralUnless, OfEvent, cause_literal, suppress_literal, AreGuardRows}
-use Rattle.obligations.proofs.Vocabulary.{HoldsLast, last_position, After, AtNode, BecomesAt, PendingAfter, PendsBehind}
-use Rattle.obligations.proofs.Vocabulary.{node_of, BegunIsNamed, BegunIsReached, MissedIsReached, ReachedIsInside}
-use Rattle.obligations.proofs.Vocabulary.{IsBegunBy, IsBegunIn, IsMissedIn, IsReached, last_events, IsBegunAt}
-use Rattle.obligations.proofs.Vocabulary.{IsReachedBy, begun_at, PendCame, PendingWasBegun, PlansStand, Instance}
-use Rattle.obligations.proofs.Vocabulary.{Literal}
+use Rattle.obligations.proofs.Vocabulary.{◌≡◌, ◌⊎◌, ℕ, zero, suc, ◌+◌, ◌<◌, ◌≤◌, List, [], ◌∷◌, ◌++◌, length, take, drop, Contains, Option, None, Some, length-append, refl, sym, ap, subst, ◌∙◌, arith}
+use Rattle.obligations.proofs.Vocabulary.{inl, inr, ⊎_elim, length-take-le, take-append-drop, AllByRecursion, All-contains, Contains-append_left, Contains-append_right, step_at}
+use Rattle.obligations.proofs.Vocabulary.{AllByRecursion-contains, AllByRecursion-from_contains, Contains-append, first_or_later, here, later, none_in_nil, Valuation, no_values, values_of_terms}
+use Rattle.obligations.proofs.Vocabulary.{with_values, Event, NameId, Step, Term, VarId, Value, as_many_values, Formula, GuardLooksBack, has_future, nodes, node_number, node_in, Plan, CausePlan}
+use Rattle.obligations.proofs.Vocabulary.{SuppressPlan, Both, Either, TestOr, Guarded, EventuallyPlan, AlwaysPlan, UntilPlan, NextPlan, triggers, FoundIsFirst, TriggersAreMet, IsNodeByNumber}
+use Rattle.obligations.proofs.Vocabulary.{StandsIn, from_one, Begun, BeginsAlways, BeginsOrWaits, LacksNothing, WithBehind, begun_now, time_now, Missing, MissesAlways, MissesUntil, IsAbsent}
+use Rattle.obligations.proofs.Vocabulary.{IsPresent, LiteralUnless, OfEvent, cause_literal, suppress_literal, AreGuardRows, HoldsLast, last_position, After, AtNode, BecomesAt, PendingAfter}
+use Rattle.obligations.proofs.Vocabulary.{PendsBehind, node_of, BegunIsNamed, BegunIsReached, MissedIsReached, ReachedIsInside, IsBegunBy, IsBegunIn, IsMissedIn, IsReached, last_events, IsBegunAt}
+use Rattle.obligations.proofs.Vocabulary.{IsReachedBy, begun_at, PendCame, PendingWasBegun, PlansStand, Instance, Literal}
 use Rattle.obligations.proofs.ReachWidening.{AreMetAtLast}
 use Rattle.obligations.proofs.GatheredLists.{BegunByRoots-contains, Gathers-contains}
 use Rattle.obligations.proofs.SoundnessLemmas.{taken}

@@ -1,15 +1,9 @@
 -- A plan misses one list of literals at most, and begins one list of instances.
-use Rattle.obligations.proofs.Vocabulary.{◌≡◌, ℕ, zero, suc, Bool, true, false, List, [], ◌∷◌, ◌++◌}
-use Rattle.obligations.proofs.Vocabulary.{Option, None, Some, length, sym, ap, subst, arith, ⊎_elim, ◌⊎◌}
-use Rattle.obligations.proofs.Vocabulary.{◌∙◌, take, Valuation, no_values, values_of_terms, with_values, Event}
-use Rattle.obligations.proofs.Vocabulary.{NameId, Step, Value, Plan, CausePlan, SuppressPlan, Both, Either, TestOr}
-use Rattle.obligations.proofs.Vocabulary.{Guarded, EventuallyPlan, AlwaysPlan, UntilPlan, NextPlan, has_future, Missing}
-use Rattle.obligations.proofs.Vocabulary.{HasSome, LiteralUnless, MissesEither, MissesUntil, MissesAlways, OfEvent}
-use Rattle.obligations.proofs.Vocabulary.{IsAbsent, IsPresent, cause_literal, suppress_literal, Gathers, Begun}
-use Rattle.obligations.proofs.Vocabulary.{BeginsAlways, BeginsOrWaits, LacksNothing, LacksSome, TakesOrElse}
-use Rattle.obligations.proofs.Vocabulary.{TakesPresent, IfElse, WithBehind, begun_now, MissingIsOne, AfterIsOne}
-use Rattle.obligations.proofs.Vocabulary.{BegunIsOne, MissingOfIsOne, PendIsOne, RowsAreOne, After, AtNode, BecomesAt}
-use Rattle.obligations.proofs.Vocabulary.{BegunByRoots, IsNowIn, MissesAt, PendsBehind, node_of, Instance, Literal}
+use Rattle.obligations.proofs.Vocabulary.{◌≡◌, ℕ, zero, suc, Bool, true, false, List, [], ◌∷◌, ◌++◌, Option, None, Some, length, sym, ap, subst, arith, ⊎_elim, ◌⊎◌, ◌∙◌, take, Valuation, no_values}
+use Rattle.obligations.proofs.Vocabulary.{values_of_terms, with_values, Event, NameId, Step, Value, Plan, CausePlan, SuppressPlan, Both, Either, TestOr, Guarded, EventuallyPlan, AlwaysPlan, UntilPlan}
+use Rattle.obligations.proofs.Vocabulary.{NextPlan, has_future, Missing, HasSome, LiteralUnless, MissesEither, MissesUntil, MissesAlways, OfEvent, IsAbsent, IsPresent, cause_literal, suppress_literal}
+use Rattle.obligations.proofs.Vocabulary.{Gathers, Begun, BeginsAlways, BeginsOrWaits, LacksNothing, LacksSome, TakesOrElse, TakesPresent, IfElse, WithBehind, begun_now, MissingIsOne, AfterIsOne}
+use Rattle.obligations.proofs.Vocabulary.{BegunIsOne, MissingOfIsOne, PendIsOne, RowsAreOne, After, AtNode, BecomesAt, BegunByRoots, IsNowIn, MissesAt, PendsBehind, node_of, Instance, Literal}
 
 -- at most one list has the property
 abbrev pub IsOne : {X : Type 0} → (List X → Type 0) → Type 0

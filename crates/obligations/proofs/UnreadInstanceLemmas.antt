@@ -1,15 +1,9 @@
 -- What a pending instance missed nothing of it misses nothing of after an action on a name that the plans do not read.
-use Rattle.obligations.proofs.Vocabulary.{◌≡◌, ◌⊎◌, ℕ, zero, suc, Bool, true, false, cond, List, []}
-use Rattle.obligations.proofs.Vocabulary.{◌∷◌, ◌++◌, Contains, Option, None, Some, refl, sym, ap, subst}
-use Rattle.obligations.proofs.Vocabulary.{arith, inl, inr, ⊎_elim, ◌∙◌, slice_get, AllByRecursion, find}
-use Rattle.obligations.proofs.Vocabulary.{none-some, same_Some, step_at, AllByRecursion-contains, Contains-append}
-use Rattle.obligations.proofs.Vocabulary.{first_or_later, here, later, none_in_nil, NameId, Step, VarId, cases_le}
-use Rattle.obligations.proofs.Vocabulary.{Formula, NamesDecide, has_number, nodes, node_in, nodes_of, Plan, CausePlan}
-use Rattle.obligations.proofs.Vocabulary.{SuppressPlan, Both, Either, TestOr, Guarded, EventuallyPlan, AlwaysPlan}
-use Rattle.obligations.proofs.Vocabulary.{UntilPlan, NextPlan, CanAskPlan, LacksNothing, LacksSome, IfElse, time_now}
-use Rattle.obligations.proofs.Vocabulary.{Missing, last_position, MissingExists, AtNode, IsInWindow, IsNowIn, MissesAt}
-use Rattle.obligations.proofs.Vocabulary.{DiffersIn, IsUnread, IsUnreadIn, UnreadInstanceStaysMet, Instance, Literal}
-use Rattle.obligations.proofs.Vocabulary.{LiteralKind}
+use Rattle.obligations.proofs.Vocabulary.{◌≡◌, ◌⊎◌, ℕ, zero, suc, Bool, true, false, cond, List, [], ◌∷◌, ◌++◌, Contains, Option, None, Some, refl, sym, ap, subst, arith, inl, inr, ⊎_elim, ◌∙◌}
+use Rattle.obligations.proofs.Vocabulary.{slice_get, AllByRecursion, find, none-some, same_Some, step_at, AllByRecursion-contains, Contains-append, first_or_later, here, later, none_in_nil, NameId}
+use Rattle.obligations.proofs.Vocabulary.{Step, VarId, cases_le, Formula, NamesDecide, has_number, nodes, node_in, nodes_of, Plan, CausePlan, SuppressPlan, Both, Either, TestOr, Guarded}
+use Rattle.obligations.proofs.Vocabulary.{EventuallyPlan, AlwaysPlan, UntilPlan, NextPlan, CanAskPlan, LacksNothing, LacksSome, IfElse, time_now, Missing, last_position, MissingExists, AtNode}
+use Rattle.obligations.proofs.Vocabulary.{IsInWindow, IsNowIn, MissesAt, DiffersIn, IsUnread, CanAskOf, MissingOf, UnreadInstanceStaysMet, Instance, Literal, LiteralKind}
 use Rattle.obligations.proofs.SoundnessLemmas.{all_left, all_right}
 use Rattle.obligations.proofs.UnreadNameLemmas.{same_last, unread_stays_met}
 
@@ -90,17 +84,10 @@ in_or_not i time =
 
 -- ---- an instance
 
-module _ (names : NamesDecide) (exist : MissingExists) (guards : List (Formula × List VarId)) (k : LiteralKind) (name : NameId)
-    (trace other : List Step) (differs : DiffersIn k name trace other) (i : Instance) where
-  same_time : time_now trace ≡ time_now other
-  same_time =
-      differs.times (last_position trace)
-      ∙ ap (λ n. (step_at other n).time) (same_last names k name trace other differs)
-
-  stays : (plan : Plan) → IsUnreadIn k name plan → CanAskPlan guards plan i.valuation → Missing trace plan i.valuation []
-      → Missing other plan i.valuation []
-  stays plan unread can = unread_stays_met names exist guards k name trace other plan i.valuation differs unread can
-
+module _ (exist : MissingExists) (guards : List (Formula × List VarId)) (P : Plan → Type 0) (trace other : List Step) (i : Instance)
+    (same_time : time_now trace ≡ time_now other)
+    (stays : (plan : Plan) → AllByRecursion P (nodes plan) → CanAskPlan guards plan i.valuation → Missing trace plan i.valuation []
+    → Missing other plan i.valuation []) where
   abbrev Nothing : List Literal
   Nothing = []
 
@@ -134,7 +121,7 @@ module _ (names : NamesDecide) (exist : MissingExists) (guards : List (Formula �
       (λ lacks. inr ((λ within. (x, xs, is)), l lacks.1))
       missing
 
-  at_stays : (node : Plan) (forced : Bool) → IsUnreadIn k name node → CanAskPlan guards node i.valuation
+  at_stays : (node : Plan) (forced : Bool) → AllByRecursion P (nodes node) → CanAskPlan guards node i.valuation
       → MissesAt trace node i forced [] → MissesAt other node i forced []
   at_stays (EventuallyPlan n place low high body) forced unread can missing =
       where_stays forced (Missing trace body i.valuation []) ([] ≡ []) (Missing other body i.valuation []) ([] ≡ [])
@@ -147,8 +134,8 @@ module _ (names : NamesDecide) (exist : MissingExists) (guards : List (Formula �
       (λ outside. inr ((λ within. outside.0 (from within)), refl))
       missing
   at_stays (UntilPlan n place low high left right) forced unread can missing =
-      let on_left = stays left (all_left (IsUnread k name) (nodes left) (nodes right) unread.1) (record { scope = can.scope; can = can.can.1; fits = can.fits }) in
-      let on_right = stays right (all_right (IsUnread k name) (nodes left) (nodes right) unread.1) (record { scope = can.scope; can = can.can.2; fits = can.fits }) in
+      let on_left = stays left (all_left P (nodes left) (nodes right) unread.1) (record { scope = can.scope; can = can.can.1; fits = can.fits }) in
+      let on_right = stays right (all_right P (nodes left) (nodes right) unread.1) (record { scope = can.scope; can = can.can.2; fits = can.fits }) in
       until_stays (Nothing ≡ Nothing)
       (IfElse forced (Missing trace right i.valuation []) (Missing trace left i.valuation []))
       (IfElse forced (Missing other right i.valuation []) (Missing other left i.valuation []))
@@ -161,9 +148,27 @@ module _ (names : NamesDecide) (exist : MissingExists) (guards : List (Formula �
   at_stays (TestOr n guard test body) forced unread can missing = absurd missing
   at_stays (Guarded n xs guard test body) forced unread can missing = absurd missing
 
+-- what a pending instance missed nothing of stays so, where what is missed of each plan with the property does
+pub instance_stays_met : MissingExists → (guards : List (Formula × List VarId)) (P : Plan → Type 0) (trace other : List Step)
+    (plans : List Plan) (i : Instance) (forced : Bool) → time_now trace ≡ time_now other
+    → ((plan : Plan) → AllByRecursion P (nodes plan) → CanAskPlan guards plan i.valuation → Missing trace plan i.valuation []
+    → Missing other plan i.valuation [])
+    → AllByRecursion (λ plan. AllByRecursion P (nodes plan)) plans → CanAskOf guards plans i → MissingOf plans trace i forced []
+    → MissingOf plans other i forced []
+instance_stays_met exist guards P trace other plans i forced same stays all can missing =
+    subst (λ o. AtNode o (λ node. MissesAt other node i forced [])) (sym can.found)
+    (at_stays exist guards P trace other i same stays can.node forced
+    (at_node P plans i.rule i.node can.node all can.found) can.can
+    (subst (λ o. AtNode o (λ node. MissesAt trace node i forced [])) can.found missing))
+
+pub same_time : NamesDecide → (k : LiteralKind) (name : NameId) (trace other : List Step) → DiffersIn k name trace other
+    → time_now trace ≡ time_now other
+same_time names k name trace other differs =
+    differs.times (last_position trace)
+    ∙ ap (λ n. (step_at other n).time) (same_last names k name trace other differs)
+
 pub unread_instance_stays_met : NamesDecide → MissingExists → UnreadInstanceStaysMet
 unread_instance_stays_met names exist guards k name trace other plans i forced differs unread can missing =
-    subst (λ o. AtNode o (λ node. MissesAt other node i forced [])) (sym can.found)
-    (at_stays names exist guards k name trace other differs i can.node forced
-    (at_node (IsUnread k name) plans i.rule i.node can.node unread can.found) can.can
-    (subst (λ o. AtNode o (λ node. MissesAt trace node i forced [])) can.found missing))
+    instance_stays_met exist guards (IsUnread k name) trace other plans i forced (same_time names k name trace other differs)
+    (λ plan all can_plan misses. unread_stays_met names exist guards k name trace other plan i.valuation differs all can_plan misses)
+    unread can missing

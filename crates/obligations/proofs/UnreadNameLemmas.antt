@@ -1,19 +1,13 @@
 -- What misses nothing misses nothing after an action on a name that it does not read.
-use Rattle.obligations.proofs.Vocabulary.{◌≡◌, ◌⊎◌, ℕ, zero, suc, List, [], ◌∷◌, ◌++◌, length}
-use Rattle.obligations.proofs.Vocabulary.{Contains, Option, None, Some, refl, sym, ap, subst, inl, inr, ⊎_elim}
-use Rattle.obligations.proofs.Vocabulary.{◌∙◌, ◌↔◌, AllByRecursion, All-contains, step_at, Valuation}
-use Rattle.obligations.proofs.Vocabulary.{values_of_terms, with_values, Event, NameId, Step, VarId, Value, Formula, Sat}
-use Rattle.obligations.proofs.Vocabulary.{NamesDecide, HaveSameNamedEvents, names_in_formula, nodes, Plan, CausePlan}
-use Rattle.obligations.proofs.Vocabulary.{SuppressPlan, Both, Either, TestOr, Guarded, EventuallyPlan, AlwaysPlan}
-use Rattle.obligations.proofs.Vocabulary.{UntilPlan, NextPlan, CanAskIn, FitsScope, MissingExists, IsAbsent, IsPresent}
-use Rattle.obligations.proofs.Vocabulary.{LiteralUnless, MissesUntil, Missing, OfEvent, cause_literal, suppress_literal}
-use Rattle.obligations.proofs.Vocabulary.{Gathers, HoldsLast, last_position, AreThoseWith, DiffersIn, IsStillWanted}
-use Rattle.obligations.proofs.Vocabulary.{IsUnread, IsUnreadIn, IsPlain, UnreadLeavesRest, UnreadStaysMet, Literal}
-use Rattle.obligations.proofs.Vocabulary.{LiteralKind, here, later, nil_not_cons}
+use Rattle.obligations.proofs.Vocabulary.{◌≡◌, ◌⊎◌, ℕ, zero, suc, List, [], ◌∷◌, ◌++◌, length, Contains, Option, None, Some, refl, sym, ap, subst, inl, inr, ⊎_elim, ◌∙◌, ◌↔◌, AllByRecursion}
+use Rattle.obligations.proofs.Vocabulary.{All-contains, step_at, Valuation, values_of_terms, with_values, Event, NameId, Step, VarId, Value, Formula, Sat, NamesDecide, HaveSameNamedEvents}
+use Rattle.obligations.proofs.Vocabulary.{names_in_formula, nodes, Plan, CausePlan, SuppressPlan, Both, Either, TestOr, Guarded, EventuallyPlan, AlwaysPlan, UntilPlan, NextPlan, CanAskIn, FitsScope}
+use Rattle.obligations.proofs.Vocabulary.{MissingExists, IsAbsent, IsPresent, LiteralUnless, MissesUntil, Missing, OfEvent, cause_literal, suppress_literal, Gathers, HoldsLast, last_position}
+use Rattle.obligations.proofs.Vocabulary.{AreThoseWith, DiffersIn, IsStillWanted, IsUnread, IsUnreadIn, IsPlain, UnreadLeavesRest, UnreadStaysMet, Literal, LiteralKind, here, later, nil_not_cons}
 use Rattle.std.specs.Prelude.{◌-◌}
-use Rattle.obligations.proofs.AskablePlanLemmas.{under_row}
 use Rattle.obligations.proofs.ExistenceLemmas.{present_or_not}
-use Rattle.obligations.proofs.SoundnessLemmas.{all_left, all_right, nil_left, nil_right}
+use Rattle.obligations.proofs.MetStaysLemmas.{KeepsMet, stays_met}
+use Rattle.obligations.proofs.SoundnessLemmas.{all_left, all_right}
 use Rattle.obligations.specs.declared.literals.LiteralKind.TheVariants as kind
 
 present_stays : (k : LiteralKind) (name : NameId) (trace other : List Step) → DiffersIn k name trace other → (i : ℕ) (e : Event)
@@ -26,30 +20,12 @@ absent_stays : (k : LiteralKind) (name : NameId) (trace other : List Step) → D
 absent_stays kind.Cause name trace other differs i e unread there = (differs.others i e (unread refl)).1 there
 absent_stays kind.Suppress name trace other differs i e unread there = differs.more i e there
 
-leaf_stays : (n : NameId) (o : Option (List Value)) (P Q : Event → Type 0) (l : Event → Literal)
-    → ((e : Event) → e.name ≡ n → P e → Q e) → OfEvent n o (λ e. LiteralUnless (P e) (l e) [])
-    → OfEvent n o (λ e. LiteralUnless (Q e) (l e) [])
-leaf_stays n None P Q l turn missing = missing
-leaf_stays n (Some args) P Q l turn missing =
-    ⊎_elim (λ met. inl (turn (record { name = n; args = args }) refl met.0, refl)) (λ lacks. absurd (nil_not_cons (l (record { name = n; args = args })) [] lacks.1)) missing
-
-none_gathered : {X : Type 0} (P Q : X → List Literal → Type 0) (xs : List X) → ((x : X) → Contains xs x → P x [] → Q x [])
-    → Gathers P xs [] → Gathers Q xs []
-none_gathered P Q [] turn gathered = gathered
-none_gathered P Q (x ∷ xs) turn (one, rest, is, others, are) = (
-  [],
-  [],
-  turn x (here x xs) (subst (P x) (nil_left one rest are) is),
-  none_gathered P Q xs (λ y there. turn y (later y x xs there)) (subst (Gathers P xs) (nil_right one rest are) others),
-  refl,
-)
-
 module _ (names : NamesDecide) (k : LiteralKind) (name : NameId) (trace other : List Step)
     (differs : DiffersIn k name trace other) where
   pub same_last : last_position trace ≡ last_position other
   same_last = ap (λ n. n - 1) differs.long
 
-  same_holds : (f : Formula) → (Contains (names_in_formula f) name → ⊥) → (v : Valuation) → HoldsLast trace v f ↔ HoldsLast other v f
+  pub same_holds : (f : Formula) → (Contains (names_in_formula f) name → ⊥) → (v : Valuation) → HoldsLast trace v f ↔ HoldsLast other v f
   same_holds f unread v =
       let same : HaveSameNamedEvents (names_in_formula f) trace other = record {
         long = differs.long;
@@ -61,80 +37,32 @@ module _ (names : NamesDecide) (k : LiteralKind) (name : NameId) (trace other : 
         λ holds. both.1 (subst (λ n. Sat other n v f) (sym same_last) holds),
       )
 
-  at_last : (e : Event) → Contains (step_at other (last_position trace)).events e → IsPresent other e
+  pub at_last : (e : Event) → Contains (step_at other (last_position trace)).events e → IsPresent other e
   at_last e there = subst (λ n. Contains (step_at other n).events e) same_last there
 
-  from_last : (e : Event) → IsPresent other e → Contains (step_at other (last_position trace)).events e
+  pub from_last : (e : Event) → IsPresent other e → Contains (step_at other (last_position trace)).events e
   from_last e there = subst (λ n. Contains (step_at other n).events e) (sym same_last) there
 
-module _ (names : NamesDecide) (exist : MissingExists) (guards : List (Formula × List VarId)) (k : LiteralKind) (name : NameId)
-    (trace other : List Step) (differs : DiffersIn k name trace other) where
-  until_stays : (low : ℕ) (L R L' R' : List Literal → Type 0) → (L [] → L' []) → (R [] → R' []) → (ls : List Literal) × R' ls
-      → MissesUntil low L R [] → MissesUntil low L' R' []
-  until_stays zero L R L' R' l r ([], is) missing = inl (is, refl)
-  until_stays zero L R L' R' l r (x ∷ xs, is) missing =
-      ⊎_elim (λ met. inl (r met.0, refl)) (λ lacks. inr ((x, xs, is), l lacks.1)) missing
-  until_stays (suc low) L R L' R' l r some missing = l missing
-
-  stays : (plan : Plan) (scope : List VarId) → CanAskIn guards plan scope → AllByRecursion (IsUnread k name) (nodes plan) → (v : Valuation)
-      → FitsScope scope v → Missing trace plan v [] → Missing other plan v []
-  stays (CausePlan node place n terms) scope can unread v fit missing =
-      leaf_stays n (values_of_terms v terms) (IsPresent trace) (IsPresent other) (λ e. cause_literal e node)
-      (λ e is there. at_last names k name trace other differs e (present_stays k name trace other differs (last_position trace) e (λ s named. unread.0 s (sym is ∙ named)) there)) missing
-  stays (SuppressPlan node place n terms) scope can unread v fit missing =
-      leaf_stays n (values_of_terms v terms) (IsAbsent trace) (IsAbsent other) (λ e. suppress_literal e node)
-      (λ e is absent there. absent (absent_stays k name trace other differs (last_position trace) e (λ s named. unread.0 s (sym is ∙ named))
-      (from_last names k name trace other differs e there))) missing
-  stays (Both node left right) scope can unread v fit (first, rest, on_left, on_right, are) = (
-    [],
-    [],
-    stays left scope can.1 (all_left (IsUnread k name) (nodes left) (nodes right) unread.1) v fit (subst (Missing trace left v) (nil_left first rest are) on_left),
-    stays right scope can.2 (all_right (IsUnread k name) (nodes left) (nodes right) unread.1) v fit (subst (Missing trace right v) (nil_right first rest are) on_right),
-    refl,
-  )
-  stays (Either node left right) scope can unread v fit missing =
-      let l = stays left scope can.1 (all_left (IsUnread k name) (nodes left) (nodes right) unread.1) v fit in
-      let r = stays right scope can.2 (all_right (IsUnread k name) (nodes left) (nodes right) unread.1) v fit in
-      ⊎_elim (λ met. inl (l met.0, refl)) (λ more. ⊎_elim (λ met. inr (inl (r met.0, refl))) (λ lacks. inr (inl (r lacks.2, refl))) more) missing
-  stays (TestOr node guard test body) scope can unread v fit missing =
-      ⊎_elim
-      (λ met. inl ((same_holds names k name trace other differs test unread.0 v).0 met.0, refl))
-      (λ fails. inr ((λ holds. fails.0 ((same_holds names k name trace other differs test unread.0 v).1 holds)), stays body scope can.1 unread.1 v fit fails.1))
-      missing
-  stays (Guarded node xs guard test body) scope can unread v fit (rows, are, gathered) = (
-    rows,
-    record {
-      fit = are.fit;
-      rise = are.rise;
-      are = λ row long. (
-        (λ there. (same_holds names k name trace other differs test unread.0 (with_values xs row v)).0 ((are.are row long).0 there)),
-        (λ holds. (are.are row long).1 ((same_holds names k name trace other differs test unread.0 (with_values xs row v)).1 holds)),
-      );
-    },
-    none_gathered (λ row. Missing trace body (with_values xs row v)) (λ row. Missing other body (with_values xs row v)) rows
-        (λ row there missing. stays body (scope ++ xs) can.1 unread.1 (with_values xs row v)
-        (under_row scope xs can.0.2 v fit row (All-contains (λ (r : List Value). length r ≡ length xs) rows row are.fit there)) missing) gathered,
-  )
-  stays (EventuallyPlan node place low high body) scope can unread v fit missing = refl
-  stays (AlwaysPlan node place zero high body) scope can unread v fit missing = stays body scope can.1 unread.1 v fit missing
-  stays (AlwaysPlan node place (suc low) high body) scope can unread v fit missing = refl
-  stays (UntilPlan node place low high left right) scope can unread v fit missing =
-      until_stays low (Missing trace left v) (Missing trace right v) (Missing other left v) (Missing other right v)
-      (stays left scope can.1 (all_left (IsUnread k name) (nodes left) (nodes right) unread.1) v fit)
-      (stays right scope can.2 (all_right (IsUnread k name) (nodes left) (nodes right) unread.1) v fit)
-      (exist guards other right v (record { scope = scope; can = can.2; fits = fit })) missing
-  stays (NextPlan node place high body) scope can unread v fit missing = refl
+  unread_keeps : KeepsMet trace other (IsUnread k name)
+  unread_keeps = record {
+    caused = λ node place n terms unread e is there. at_last e
+        (present_stays k name trace other differs (last_position trace) e (λ s named. unread s (sym is ∙ named)) there);
+    suppressed = λ node place n terms unread e is absent there. absent
+        (absent_stays k name trace other differs (last_position trace) e (λ s named. unread s (sym is ∙ named)) (from_last e there));
+    tested = λ node guard test body unread v. same_holds test unread v;
+    guarded = λ node xs guard test body unread v holds. (same_holds test unread v).1 holds;
+  }
 
 pub unread_stays_met : NamesDecide → MissingExists → UnreadStaysMet
 unread_stays_met names exist guards k name trace other plan v differs unread can missing =
-    stays names exist guards k name trace other differs plan can.scope can.can unread v can.fits missing
+    stays_met exist guards trace other (IsUnread k name) (unread_keeps names k name trace other differs) plan v unread can missing
 
 -- ---- what is left of what was missed
 
-no_more : (W : Literal → Type 0) (ls : List Literal) → ls ≡ [] → AreThoseWith W ls []
+pub no_more : (W : Literal → Type 0) (ls : List Literal) → ls ≡ [] → AreThoseWith W ls []
 no_more W ls none = subst (λ l. AreThoseWith W l []) (sym none) refl
 
-those_both : (W : Literal → Type 0) (xs ys ms ns : List Literal) → AreThoseWith W xs ms → AreThoseWith W ys ns
+pub those_both : (W : Literal → Type 0) (xs ys ms ns : List Literal) → AreThoseWith W xs ms → AreThoseWith W ys ns
     → AreThoseWith W (xs ++ ys) (ms ++ ns)
 those_both W [] ys ms ns none others = subst (λ l. AreThoseWith W ys (l ++ ns)) (sym none) others
 those_both W (x ∷ xs) ys ms ns those others =

@@ -1,16 +1,10 @@
 -- Each literal that is missed is of a leaf, and its values are known.
-use Rattle.obligations.proofs.Vocabulary.{◌≡◌, ℕ, zero, suc, Bool, true, false, List, [], ◌∷◌, ◌++◌}
-use Rattle.obligations.proofs.Vocabulary.{length, Contains, Option, None, Some, refl, sym, subst, inl, inr, ⊎_elim}
-use Rattle.obligations.proofs.Vocabulary.{◌∙◌, AllByRecursion, All-contains, same_Some, AllByRecursion-append}
-use Rattle.obligations.proofs.Vocabulary.{AllByRecursion-weaker, here, later, Valuation, values_of_terms, with_values}
-use Rattle.obligations.proofs.Vocabulary.{Event, NameId, Step, VarId, Value, as_many_values, Formula, Classically}
-use Rattle.obligations.proofs.Vocabulary.{AreOpen, SafeValuesAreKnown, nodes, Plan, CausePlan, SuppressPlan, Both}
-use Rattle.obligations.proofs.Vocabulary.{Either, TestOr, Guarded, EventuallyPlan, AlwaysPlan, UntilPlan, NextPlan}
-use Rattle.obligations.proofs.Vocabulary.{among_or_not, value_at-with_outside, CanAskIn, IsGuardAt, IsBound, IsLeaf}
-use Rattle.obligations.proofs.Vocabulary.{terms_of, IfElse, IsAbsent, IsPresent, LiteralUnless, MissesAlways}
-use Rattle.obligations.proofs.Vocabulary.{MissesEither, MissesUntil, Missing, OfEvent, cause_literal, suppress_literal}
-use Rattle.obligations.proofs.Vocabulary.{Gathers, HoldsLast, last_position, AtNode, MissesAt, IsKnownOn, IsOwnLiteral}
-use Rattle.obligations.proofs.Vocabulary.{MissedAreOwn, MissedOfAreOwn, Instance, Literal}
+use Rattle.obligations.proofs.Vocabulary.{◌≡◌, ℕ, zero, suc, Bool, true, false, List, [], ◌∷◌, ◌++◌, length, Contains, Option, None, Some, refl, sym, subst, inl, inr, ⊎_elim, ◌∙◌, AllByRecursion}
+use Rattle.obligations.proofs.Vocabulary.{All-contains, same_Some, AllByRecursion-append, AllByRecursion-weaker, here, later, Valuation, values_of_terms, with_values, Event, NameId, Step, VarId}
+use Rattle.obligations.proofs.Vocabulary.{Value, as_many_values, Formula, Classically, AreOpen, SafeValuesAreKnown, nodes, Plan, CausePlan, SuppressPlan, Both, Either, TestOr, Guarded, EventuallyPlan}
+use Rattle.obligations.proofs.Vocabulary.{AlwaysPlan, UntilPlan, NextPlan, among_or_not, value_at-with_outside, CanAskIn, IsGuardAt, IsBound, IsLeaf, terms_of, IfElse, IsAbsent, IsPresent}
+use Rattle.obligations.proofs.Vocabulary.{LiteralUnless, MissesAlways, MissesEither, MissesUntil, Missing, OfEvent, cause_literal, suppress_literal, Gathers, HoldsLast, last_position, AtNode}
+use Rattle.obligations.proofs.Vocabulary.{MissesAt, IsKnownOn, IsOwnLiteral, MissedAreOwn, MissedOfAreOwn, Instance, Literal}
 use Rattle.obligations.proofs.WantedLiteralLemmas.{args_known, in_body, in_left, in_right, mapped}
 
 -- ---- what holds of each literal of the parts holds of each of the whole

@@ -1,18 +1,11 @@
 -- What the parts of a plan want is wanted by the whole, and its values are known.
-use Rattle.obligations.proofs.Vocabulary.{◌≡◌, ℕ, zero, suc, Bool, true, false, cond, List, [], ◌∷◌}
-use Rattle.obligations.proofs.Vocabulary.{◌++◌, length, map, drop, Contains, Option, None, Some, refl, sym, ap}
-use Rattle.obligations.proofs.Vocabulary.{subst, arith, inl, inr, ⊎_elim, ◌⊎◌, ◌∙◌, IfSome, slice_get}
-use Rattle.obligations.proofs.Vocabulary.{option_to_list, append-nil, Contains-append_left, Contains-append_right}
-use Rattle.obligations.proofs.Vocabulary.{Contains-push_cases, same_Some, none-some, first_or_later, here, later}
-use Rattle.obligations.proofs.Vocabulary.{none_in_nil, Valuation, onto_values, value_of_term, values_of_terms}
-use Rattle.obligations.proofs.Vocabulary.{with_values, Event, NameId, Term, Var, Const, VarId, Value, as_many_values}
-use Rattle.obligations.proofs.Vocabulary.{Formula, AreNewVariables, AreOpen, IsKnownNow, IsKnownOfGuard, AreEvaluated}
-use Rattle.obligations.proofs.Vocabulary.{HasOpenColumns, IsGuard, guard_formula, tables_of, PlacedGuard, nodes, Plan}
-use Rattle.obligations.proofs.Vocabulary.{CausePlan, SuppressPlan, Guarded, among_or_not, value_at-with_inside}
-use Rattle.obligations.proofs.Vocabulary.{value_at-with_outside, IsTable, Relation, row_cell, AddsOf, FitsScope}
-use Rattle.obligations.proofs.Vocabulary.{IsBound, IsLeafConstant, IsGuardAt, IsKnownAt, IsWanted, IsWantedUnder}
-use Rattle.obligations.proofs.Vocabulary.{guards_at, LiteralUnless, OfEvent, cause_literal, suppress_literal}
-use Rattle.obligations.proofs.Vocabulary.{IsReachedBy, Literal, Now}
+use Rattle.obligations.proofs.Vocabulary.{◌≡◌, ℕ, zero, suc, Bool, true, false, cond, List, [], ◌∷◌, ◌++◌, length, map, drop, Contains, Option, None, Some, refl, sym, ap, subst, arith, inl, inr}
+use Rattle.obligations.proofs.Vocabulary.{⊎_elim, ◌⊎◌, ◌∙◌, IfSome, slice_get, option_to_list, append-nil, Contains-append_left, Contains-append_right, Contains-push_cases, same_Some, none-some}
+use Rattle.obligations.proofs.Vocabulary.{first_or_later, here, later, none_in_nil, Valuation, onto_values, value_of_term, values_of_terms, with_values, Event, NameId, Term, Var, Const, VarId, Value}
+use Rattle.obligations.proofs.Vocabulary.{as_many_values, Formula, AreNewVariables, AreOpen, IsKnownNow, IsKnownOfGuard, AreEvaluated, HasOpenColumns, IsGuard, guard_formula, tables_of, PlacedGuard}
+use Rattle.obligations.proofs.Vocabulary.{nodes, Plan, CausePlan, SuppressPlan, Guarded, among_or_not, value_at-with_inside, value_at-with_outside, IsTable, Relation, row_cell, AddsOf, FitsScope}
+use Rattle.obligations.proofs.Vocabulary.{IsBound, IsLeafConstant, IsGuardAt, IsKnownAt, IsWanted, IsWantedUnder, guards_at, LiteralUnless, OfEvent, cause_literal, suppress_literal, IsReachedBy}
+use Rattle.obligations.proofs.Vocabulary.{Literal, Now}
 use Rattle.std.proofs.Common.{◌==◌}
 use Rattle.obligations.proofs.AdditionLemmas.{row_is}
 use Rattle.obligations.proofs.ExistenceLemmas.{present_or_not}

@@ -1,17 +1,10 @@
 -- The plans of a policy can be asked at a step, which stands for the trace with it.
-use Rattle.obligations.proofs.Vocabulary.{◌≡◌, ℕ, ◌+◌, ◌≤◌, List, [], ◌∷◌, ◌++◌, length}
-use Rattle.obligations.proofs.Vocabulary.{map, Some, refl, sym, ap, subst, arith, ⊎_elim, ◌∙◌, length-append}
-use Rattle.obligations.proofs.Vocabulary.{◌↔◌, slice_get, AllByRecursion, step_at, AllByRecursion-contains}
-use Rattle.obligations.proofs.Vocabulary.{Contains-append, none_in_nil, there_from_get, rising_behind, Valuation}
-use Rattle.obligations.proofs.Vocabulary.{variable_cmp, Step, VarId, step_at_end, Formula, Sat, new_apart, AreOpen}
-use Rattle.obligations.proofs.Vocabulary.{BoundFormula, HoldsNow, last_time, AreCopies, GuardsWillHold, IsGuard, Past}
-use Rattle.obligations.proofs.Vocabulary.{PastStands, guard_formula, tables_of, PlacedGuard, GuardBindsFresh}
-use Rattle.obligations.proofs.Vocabulary.{IsListedNode, IsSafeNode, IsWellFormed, guards_of, Plan, CausePlan}
-use Rattle.obligations.proofs.Vocabulary.{SuppressPlan, Both, Either, TestOr, Guarded, EventuallyPlan, AlwaysPlan}
-use Rattle.obligations.proofs.Vocabulary.{UntilPlan, NextPlan, AtEach-weaker, AtEach, IsScopedNode, PlansStandIn}
-use Rattle.obligations.proofs.Vocabulary.{BindsFree, CanAskNode, CanAskRoot, CanAskRoots, IsNowOf, placed_guard}
-use Rattle.obligations.proofs.Vocabulary.{CanBeAsked, NowStands, WellFormedCanBeAsked, WellFormedStand, HoldsLast}
-use Rattle.obligations.proofs.Vocabulary.{last_position, Now}
+use Rattle.obligations.proofs.Vocabulary.{◌≡◌, ℕ, ◌+◌, ◌≤◌, List, [], ◌∷◌, ◌++◌, length, map, Some, refl, sym, ap, subst, arith, ⊎_elim, ◌∙◌, length-append, ◌↔◌, slice_get, AllByRecursion, step_at}
+use Rattle.obligations.proofs.Vocabulary.{AllByRecursion-contains, Contains-append, none_in_nil, there_from_get, rising_behind, Valuation, variable_cmp, Step, VarId, step_at_end, Formula, Sat}
+use Rattle.obligations.proofs.Vocabulary.{new_apart, AreOpen, BoundFormula, HoldsNow, last_time, AreCopies, GuardsWillHold, IsGuard, Past, PastStands, guard_formula, tables_of, PlacedGuard}
+use Rattle.obligations.proofs.Vocabulary.{GuardBindsFresh, IsListedNode, IsSafeNode, IsWellFormed, guards_of, Plan, CausePlan, SuppressPlan, Both, Either, TestOr, Guarded, EventuallyPlan, AlwaysPlan}
+use Rattle.obligations.proofs.Vocabulary.{UntilPlan, NextPlan, AtEach-weaker, AtEach, IsScopedNode, PlansStandIn, BindsFree, CanAskNode, CanAskRoot, CanAskRoots, IsNowOf, placed_guard, CanBeAsked}
+use Rattle.obligations.proofs.Vocabulary.{NowStands, WellFormedCanBeAsked, WellFormedStand, HoldsLast, last_position, Now}
 use Rattle.std.specs.FinMap as finite
 
 -- ---- what holds at each node

@@ -10,6 +10,8 @@ pub mod Residuals
 pub mod Cases
 pub mod Deadlines
 pub mod ExistenceLaws
+pub mod FallingNames
+pub mod FallingLaws
 pub mod FirstMissing
 pub mod LossLaws
 pub mod Parts

@@ -7,7 +7,7 @@ ghost use Rattle.enf_data.specs.declared.steps.Step.{Step};
 ghost use Rattle.plan_terms.specs.machine.StoredPlans.{plan_of};
 ghost use Rattle.obligations.specs.machine.PresentStep.{IsNowOf};
 ghost use Rattle.obligations.specs.meaning.Obligations.{Begun};
-ghost use Rattle.obligations.specs.machine.TriggeredNodes.{first_atom_name};
+ghost use Rattle.obligations.specs.machine.TriggeredNodes.{HoldsNowhere};
 
 use crate::present_step::Now;
 use enf_data::event_sets::EventSet;
@@ -15,28 +15,28 @@ use enf_data::events::NameId;
 use enf_formula::Formula;
 use plan_terms::Plan;
 
-// Whether the guard of the plan begins with an atom that has no event at the step, so that the plan begins nothing.
+// Whether the guard of the plan needs an event that the step does not have, so that the plan begins nothing.
 pub fn is_asleep(plan: &Plan, now: &Now<'_>) -> bool
     ensures { IsTrue result → (trace : List Step) → IsNowOf now.now trace → (rule : ℕ) (v : Valuation)
         → Begun trace rule (plan_of plan.now) v [] }
 {
-    let Plan::Guarded { test, .. } = plan else {
-        return false;
-    };
-    match leading_name(test) {
-        Some(name) => !has_named(now.events, name),
-        None => false,
+    match plan {
+        Plan::Guarded { test, .. } => lacks_event(test, now.events),
+        _ => false,
     }
 }
 
-// The name of the first atom of a conjunction, if it begins with one.
-fn leading_name(formula: &Formula) -> Option<NameId>
-    ensures { result ≡ first_atom_name (tree_of formula.now) }
+// Whether the formula needs an event that is not among these: both sides of an `and` do as soon as one does, and an
+// `or` where both do. One that needs no event is not looked at any further.
+fn lacks_event(formula: &Formula, events: &EventSet) -> bool
+    ensures { IsTrue result → HoldsNowhere events.now (tree_of formula.now) }
 {
     match formula {
-        Formula::Atom(_, name, _) => Some(*name),
-        Formula::And(_, g, _) => leading_name(g),
-        _ => None,
+        Formula::Atom(_, name, _) => !has_named(events, *name),
+        Formula::And(_, g, h) => lacks_event(g, events) || lacks_event(h, events),
+        Formula::Or(_, g, h) => lacks_event(g, events) && lacks_event(h, events),
+        Formula::Exists(_, _, g) => lacks_event(g, events),
+        _ => false,
     }
 }
 

@@ -13,8 +13,10 @@ ghost use Rattle.obligations.specs.machine.AskingLaws.{CanBeAsked, NowStands, We
 ghost use Rattle.obligations.specs.machine.UniquenessLaws.{MissingIsOne, AfterIsOne, BegunIsOne, MissingOfIsOne};
 ghost use Rattle.obligations.specs.machine.UniquenessLaws.{PendIsOne, RowsAreOne};
 ghost use Rattle.obligations.specs.machine.TriggerLaws.{BegunIsNamed, BegunIsReached, MissedIsReached, ReachedIsInside};
+ghost use Rattle.obligations.specs.machine.TriggerLaws.{UnwokenBeginsNothing, UnwokenMissesNothing};
 ghost use Rattle.obligations.specs.machine.ValueLaws.{MissedIsRight, MissedOfIsRight, PendingIsRight, MissedAreOwn};
 ghost use Rattle.obligations.specs.machine.ValueLaws.{MissedOfAreOwn};
+ghost use Rattle.obligations.specs.machine.FallingLaws.{FallingInstanceStaysMet, FallingStaysMet, OwnLeavesRest};
 ghost use Rattle.obligations.specs.machine.UnreadLaws.{UnreadInstanceStaysMet, UnreadLeavesRest, UnreadStaysMet};
 
 use enf_formula::laws;
@@ -162,6 +164,17 @@ pub fn unread_stays_met()
     missing_exists();
 }
 
+/// What missed nothing misses nothing after events of a name went, where each of its nodes is falling in the name. A
+/// plan that suppresses just what its guard holds for misses after that what it missed and is still there.
+pub fn falling_stays_met()
+    ensures plans { FallingStaysMet }
+    ensures instances { FallingInstanceStaysMet }
+    ensures rest { OwnLeavesRest }
+{
+    laws::dependence();
+    missing_exists();
+}
+
 /// What is missed and begun at a step stands below guards of which a trigger has an event there. A node that is reached
 /// so is one of the plan's, and what it begins names it.
 pub fn steps_reach()
@@ -171,6 +184,15 @@ pub fn steps_reach()
     ensures named { BegunIsNamed }
 {
     triggers_are_met();
+}
+
+/// A plan that can be asked misses nothing and begins nothing at a step that has no event of a name that wakes it.
+pub fn unwoken_is_idle()
+    ensures missed { UnwokenMissesNothing }
+    ensures begun { UnwokenBeginsNothing }
+{
+    triggers_are_met();
+    missing_exists();
 }
 
 /// What is pending after a trace was begun at one of its steps; what is pending after one step more was led there by

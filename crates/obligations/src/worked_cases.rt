@@ -1,7 +1,8 @@
 //! Worked cases of the definitions, each a clause of a function with an empty body.
 ghost use Rattle.std.specs.Prelude.{◌≡◌, [], ◌∷◌, None, Some, true, false};
 ghost use Rattle.enf_data.specs.meaning.Valuations.{no_values};
-ghost use Rattle.enf_formula.specs.machine.Cases.{at_time, event_p, event_q, variable_x};
+ghost use Rattle.enf_formula.specs.machine.Cases.{at_time, event_p, event_q, formula_p, formula_p_x, formula_q};
+ghost use Rattle.enf_formula.specs.machine.Cases.{name_p, name_q, variable_x};
 ghost use Rattle.obligations.specs.meaning.Obligations.{Begun, IsNeeded, Missing, cause_literal, suppress_literal};
 ghost use Rattle.obligations.specs.machine.BoundCases.{CannotWait, window_from_to, next_q, soon_q, throughout_q};
 ghost use Rattle.obligations.specs.meaning.PendingBounds.{CanWait};
@@ -10,7 +11,9 @@ ghost use Rattle.obligations.specs.machine.Cases.{no_q_until_p, p_of_1, q_of_1, 
 ghost use Rattle.obligations.specs.machine.Cases.{PlanBegins, begun_at_5, begun_then, each_next, next_for, value_1};
 ghost use Rattle.obligations.specs.machine.Cases.{second_at_5, then_at, value_2, WaitingMisses, WaitingBecomes};
 ghost use Rattle.obligations.specs.machine.Cases.{WaitingOwes, PlanPends, IsRightAtOnce, IsRightThen, at_once_for};
-ghost use Rattle.obligations.specs.machine.Cases.{then_for};
+ghost use Rattle.obligations.specs.machine.Cases.{bar_p_where, then_for};
+ghost use Rattle.obligations.specs.machine.FallingNames.{IsFallingIn, SuppressesOwn};
+ghost use Rattle.enf_formula.specs.meaning.Satisfaction as tree;
 ghost use Rattle.plan_terms.specs.machine.Cases.{cause_p, each_soon, soon_q_x};
 ghost use Rattle.obligations.specs.meaning.Pending.{IsClean, IsReady, NoneIsOver, Pend};
 ghost use Rattle.plan_terms.specs.meaning.Scopes.{future_in};
@@ -283,6 +286,19 @@ pub fn needed()
     ensures met_in_time { IsNeeded (soon_p 0 0 ∷ []) (at_5 (event_p ∷ [])) 15 → ⊥ }
     ensures no_deadline { IsNeeded (always_p 0 0 ∷ []) (at_5 []) 15 → ⊥ }
     ensures no_rule { IsNeeded [] (at_5 []) 15 → ⊥ }
+{}
+
+/// Plans that miss nothing more where events p(..) go, and those that suppress just what their guard holds for.
+pub fn falling_plans()
+    ensures grows { IsFallingIn name_p (bar_p_where formula_p_x) }
+    ensures wanted { IsFallingIn name_p (cause_p 0) → ⊥ }
+    ensures denied { IsFallingIn name_p (bar_p_where (tree.Not 0 formula_p_x)) → ⊥ }
+    ensures tested { IsFallingIn name_p (plan.TestOr 0 0 formula_p (bar_q 1)) → ⊥ }
+    ensures own { SuppressesOwn name_p (bar_p_where formula_p_x) }
+    ensures own_of_two { SuppressesOwn name_p (bar_p_where (tree.And 0 formula_p_x (tree.Not 0 formula_q))) }
+    ensures looked_for_twice { SuppressesOwn name_p (bar_p_where (tree.And 0 formula_p_x formula_p_x)) → ⊥ }
+    ensures not_looked_for { SuppressesOwn name_p (bar_p_where formula_q) → ⊥ }
+    ensures another_suppressed { SuppressesOwn name_q (bar_p_where formula_q) → ⊥ }
 {}
 
 /// Which instances can be pending at a clock, after so many steps, and which numbers name an operator on the future.

@@ -1,11 +1,8 @@
 -- What has to be kept of a trace is within the bounds at its last time.
-use Rattle.past_state.proofs.Vocabulary.{◌≡◌, ◌∙◌, ℕ, List, [], ◌∷◌, length, Contains, None, Some}
-use Rattle.past_state.proofs.Vocabulary.{refl, sym, ap, subst, arith, slice_get, same_Some, IsTrace, Valuation}
-use Rattle.past_state.proofs.Vocabulary.{valuation_of, Interval, Step, VarId, all_from, Formula, Prev, Once}
-use Rattle.past_state.proofs.Vocabulary.{Historically, Since, AreFreeVariables, Sat, HoldsAnywhere, same_free, denial}
-use Rattle.past_state.proofs.Vocabulary.{last_time, NoneIsLater, here, none_in_nil, ChosenBy, pair, HasPairAt, KeptAt}
-use Rattle.past_state.proofs.Vocabulary.{AreKeptOf, IsRowToKeep, KeptFor, kept_operand, kept_row, HaveTime, IsKeepable}
-use Rattle.past_state.proofs.Vocabulary.{IsTimely, IsTimelyIn, KeptAreWithinBounds, KeptRow}
+use Rattle.past_state.proofs.Vocabulary.{◌≡◌, ◌∙◌, ℕ, List, [], ◌∷◌, length, Contains, None, Some, refl, sym, ap, subst, arith, slice_get, same_Some, IsTrace, Valuation, valuation_of, Interval, Step}
+use Rattle.past_state.proofs.Vocabulary.{VarId, all_from, Formula, Prev, Once, Historically, Since, AreFreeVariables, Sat, HoldsAnywhere, same_free, denial, last_time, NoneIsLater, here, none_in_nil}
+use Rattle.past_state.proofs.Vocabulary.{ChosenBy, pair, HasPairAt, KeptAt, AreKeptOf, IsRowToKeep, KeptFor, kept_operand, kept_row, HaveTime, IsKeepable, IsTimely, IsTimelyIn, KeptAreWithinBounds}
+use Rattle.past_state.proofs.Vocabulary.{KeptRow}
 use Rattle.past_state.proofs.ChosenLemmas.{not_below}
 use Rattle.past_state.proofs.RestoredRowLemmas.{chosen_fewer}
 

@@ -1,6 +1,5 @@
 -- The worked cases of what has to be kept.
-use Rattle.past_state.proofs.Vocabulary.{◌≡◌, ◌⊎◌, inl, inr, ⊎_elim, ℕ, zero, suc, ◌-◌, ◌<◌}
-use Rattle.past_state.proofs.Vocabulary.{◌≤◌, length, refl, sym, arith, step_at, at_two, three_times, HasPairAt}
+use Rattle.past_state.proofs.Vocabulary.{◌≡◌, ◌⊎◌, inl, inr, ⊎_elim, ℕ, zero, suc, ◌-◌, ◌<◌, ◌≤◌, length, refl, sym, arith, step_at, at_two, three_times, HasPairAt}
 use Rattle.past_state.proofs.ChosenLemmas.{not_below}
 
 pub first : (F : ℕ → Type 0) → F 1 → F 2 → HasPairAt three_times F at_two 0

@@ -1,7 +1,6 @@
 -- Which of the times at which a row held are kept, with one step more, and what those give later.
-use Rattle.past_state.proofs.Vocabulary.{◌≡◌, ◌∙◌, ◌↔◌, ◌⊎◌, inl, inr, ⊎_elim, ℕ, zero, suc}
-use Rattle.past_state.proofs.Vocabulary.{◌+◌, ◌-◌, ◌<◌, ◌≤◌, Option, None, Some, refl, sym, subst}
-use Rattle.past_state.proofs.Vocabulary.{arith, cases_lt, IsUpTo, ChosenBy, IsEndedTime, IsServedTime}
+use Rattle.past_state.proofs.Vocabulary.{◌≡◌, ◌∙◌, ◌↔◌, ◌⊎◌, inl, inr, ⊎_elim, ℕ, zero, suc, ◌+◌, ◌-◌, ◌<◌, ◌≤◌, Option, None, Some, refl, sym, subst, arith, cases_lt, IsUpTo, ChosenBy, IsEndedTime}
+use Rattle.past_state.proofs.Vocabulary.{IsServedTime}
 
 -- ---- classically there is a least time, and a greatest one
 

@@ -1,10 +1,7 @@
 -- Columns of rows, and which rows under them survive.
-use Rattle.past_state.proofs.Vocabulary.{◌≡◌, ◌∙◌, ◌↔◌, inl, inr, ⊎_elim, ◌<◌, List, []}
-use Rattle.past_state.proofs.Vocabulary.{◌∷◌, Contains, sym, subst, ranks, MatchOrdering, IsStrictlySortedBy}
-use Rattle.past_state.proofs.Vocabulary.{All-contains, All-after_first, Formula, AreFreeVariables, tree_of, same_free}
-use Rattle.past_state.proofs.Vocabulary.{Valuation, variable_cmp, BindsColumns, Event, VarId, AreOpen, HasKnownValues}
-use Rattle.past_state.proofs.Vocabulary.{BoundFormula, HoldsNow, none_in_nil, Relation, IsTable, HasValuation, Window}
-use Rattle.past_state.proofs.Vocabulary.{WindowKeeps, AnswersRows, AllComeFrom, AreSurvivors}
+use Rattle.past_state.proofs.Vocabulary.{◌≡◌, ◌∙◌, ◌↔◌, inl, inr, ⊎_elim, ◌<◌, List, [], ◌∷◌, Contains, sym, subst, ranks, MatchOrdering, IsStrictlySortedBy, All-contains, All-after_first, Formula}
+use Rattle.past_state.proofs.Vocabulary.{AreFreeVariables, tree_of, same_free, Valuation, variable_cmp, BindsColumns, Event, VarId, AreOpen, HasKnownValues, BoundFormula, HoldsNow, none_in_nil}
+use Rattle.past_state.proofs.Vocabulary.{Relation, IsTable, HasValuation, Window, WindowKeeps, AnswersRows, AllComeFrom, AreSurvivors}
 use Rattle.std.specs.declared.cmp.Ordering.TheVariants.{Less}
 use Rattle.past_state.specs.declared.left_sides.Left.TheVariants as side
 use Rattle.past_state.specs.declared.survivors.Survivors.TheVariants as told

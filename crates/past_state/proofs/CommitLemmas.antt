@@ -1,9 +1,7 @@
 -- Operators to which a step is committed one after another.
-use Rattle.past_state.proofs.Vocabulary.{◌≡◌, ◌∙◌, ℕ, zero, suc, ◌+◌, ◌<◌, ◌≤◌, List, []}
-use Rattle.past_state.proofs.Vocabulary.{◌∷◌, ◌++◌, length, get_or, set, refl, sym, ap, subst, arith}
-use Rattle.past_state.proofs.Vocabulary.{length-append, All-get_or, All-nil, All-cons, Memory, FitMemory, IsUpToTimeOf}
-use Rattle.past_state.proofs.Vocabulary.{IsCommittedTo, IsSameMemory, AllMemoriesFit, AreUpToTimeOf, OneCommitted}
-use Rattle.past_state.proofs.Vocabulary.{AllCommitted, AreSameKinds, StepTables, OperatorState}
+use Rattle.past_state.proofs.Vocabulary.{◌≡◌, ◌∙◌, ℕ, zero, suc, ◌+◌, ◌<◌, ◌≤◌, List, [], ◌∷◌, ◌++◌, length, get_or, set, refl, sym, ap, subst, arith, length-append, All-get_or, All-nil, All-cons}
+use Rattle.past_state.proofs.Vocabulary.{Memory, FitMemory, IsUpToTimeOf, IsCommittedTo, IsSameMemory, AllMemoriesFit, AreUpToTimeOf, OneCommitted, AllCommitted, AreSameKinds, StepTables}
+use Rattle.past_state.proofs.Vocabulary.{OperatorState}
 use Rattle.past_state.proofs.MemoryLemmas.{same_itself, same_then}
 use Rattle.past_state.specs.declared.memories.Memory.TheVariants as memories
 

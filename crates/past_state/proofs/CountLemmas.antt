@@ -1,9 +1,6 @@
 -- Formulas have no more operators on the past than nodes.
-use Rattle.past_state.proofs.Vocabulary.{◌≤◌, List, [], ◌∷◌, length, sym, subst, arith, length-append}
-use Rattle.past_state.proofs.Vocabulary.{sum_by, sum-map, sum_by-cons, Formula, True, False, Atom, Equal, Less, AtMost}
-use Rattle.past_state.proofs.Vocabulary.{Not, And, Or, Implies, Exists, Forall, Prev, Next, Once, Historically, Since}
-use Rattle.past_state.proofs.Vocabulary.{Eventually, Always, Until, formula_size, NoMoreThanNodes, all_operators}
-use Rattle.past_state.proofs.Vocabulary.{operators}
+use Rattle.past_state.proofs.Vocabulary.{◌≤◌, List, [], ◌∷◌, length, sym, subst, arith, length-append, sum_by, sum-map, sum_by-cons, Formula, True, False, Atom, Equal, Less, AtMost, Not, And, Or}
+use Rattle.past_state.proofs.Vocabulary.{Implies, Exists, Forall, Prev, Next, Once, Historically, Since, Eventually, Always, Until, formula_size, NoMoreThanNodes, all_operators, operators}
 
 of_one : (f : Formula) → length (operators f) ≤ formula_size f
 of_one (True place) = omega arith

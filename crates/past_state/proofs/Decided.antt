@@ -1,11 +1,7 @@
 -- A table has a valuation or not, and a difference is in an interval or not.
-use Rattle.past_state.proofs.Vocabulary.{◌≡◌, ◌⊎◌, inl, inr, ⊎_elim, ℕ, ◌-◌, ◌≤◌, true, false}
-use Rattle.past_state.proofs.Vocabulary.{List, [], ◌∷◌, Contains, Option, None, Some, refl, sym, subst, arith}
-use Rattle.past_state.proofs.Vocabulary.{Decides, false≢true, cases_lt, same_Some, none-some, value_eq}
-use Rattle.past_state.proofs.Vocabulary.{value_eq-Decides, IsIn, IsUpTo, Valuation, value_at, Interval, VarId, Value}
-use Rattle.past_state.proofs.Vocabulary.{here, later, first_or_later, none_in_nil, Relation, HasValuation}
-use Rattle.past_state.proofs.Vocabulary.{AgreesWithRow, row_cell, Window, HasRow, WindowRemembers, ValuationSurvives}
-use Rattle.past_state.proofs.Vocabulary.{Survivors}
+use Rattle.past_state.proofs.Vocabulary.{◌≡◌, ◌⊎◌, inl, inr, ⊎_elim, ℕ, ◌-◌, ◌≤◌, true, false, List, [], ◌∷◌, Contains, Option, None, Some, refl, sym, subst, arith, Decides, false≢true, cases_lt}
+use Rattle.past_state.proofs.Vocabulary.{same_Some, none-some, value_eq, value_eq-Decides, IsIn, IsUpTo, Valuation, value_at, Interval, VarId, Value, here, later, first_or_later, none_in_nil}
+use Rattle.past_state.proofs.Vocabulary.{Relation, HasValuation, AgreesWithRow, row_cell, Window, HasRow, WindowRemembers, ValuationSurvives, Survivors}
 use Rattle.std.proofs.Common.{Bool}
 use Rattle.past_state.specs.declared.survivors.Survivors.TheVariants as told
 

@@ -1,17 +1,10 @@
 -- What is kept before the first step.
-use Rattle.past_state.proofs.Vocabulary.{◌≡◌, ◌∙◌, ◌⊎◌, inl, inr, ⊎_elim, ℕ, suc, ◌+◌}
-use Rattle.past_state.proofs.Vocabulary.{◌<◌, ◌≤◌, List, [], ◌∷◌, ◌++◌, length, reverse, get_or}
-use Rattle.past_state.proofs.Vocabulary.{All, Contains, None, refl, sym, ap, subst, arith, append_assoc, append-nil}
-use Rattle.past_state.proofs.Vocabulary.{length-append, Decides, Bool, not, false≢true, pointwise, IsStrictlySortedBy}
-use Rattle.past_state.proofs.Vocabulary.{Decides-eqb, Decides-like, slice_eq-Decides, length-reverse, reverse-append}
-use Rattle.past_state.proofs.Vocabulary.{All-contains, All-head, All-tail, Contains-append_right, Contains-get_or}
-use Rattle.past_state.proofs.Vocabulary.{sorted_tail, HasNoRepeats, variable_cmp, Interval, VarId, all_front, Formula}
-use Rattle.past_state.proofs.Vocabulary.{True, False, Atom, Equal, Less, AtMost, Not, And, Or, Implies, Exists, Forall}
-use Rattle.past_state.proofs.Vocabulary.{Prev, Next, Once, Historically, Since, Eventually, Always, Until, IsFree}
-use Rattle.past_state.proofs.Vocabulary.{AreFreeVariables, tree_of, BoundFormula, outermost, BindsFresh, denial}
-use Rattle.past_state.proofs.Vocabulary.{none_in_nil, Slot, LastHasColumns, Window, CanKeep, IsAlone, PushesFor}
-use Rattle.past_state.proofs.Vocabulary.{GuardAsks, AsksLeft, IsFor, operators, inner, AreFor, Left, Memory}
-use Rattle.past_state.proofs.Vocabulary.{OperatorState}
+use Rattle.past_state.proofs.Vocabulary.{◌≡◌, ◌∙◌, ◌⊎◌, inl, inr, ⊎_elim, ℕ, suc, ◌+◌, ◌<◌, ◌≤◌, List, [], ◌∷◌, ◌++◌, length, reverse, get_or, All, Contains, None, refl, sym, ap, subst, arith}
+use Rattle.past_state.proofs.Vocabulary.{append_assoc, append-nil, length-append, Decides, Bool, not, false≢true, pointwise, IsStrictlySortedBy, Decides-eqb, Decides-like, slice_eq-Decides}
+use Rattle.past_state.proofs.Vocabulary.{length-reverse, reverse-append, All-contains, All-head, All-tail, Contains-append_right, Contains-get_or, sorted_tail, HasNoRepeats, variable_cmp, Interval}
+use Rattle.past_state.proofs.Vocabulary.{VarId, all_front, Formula, True, False, Atom, Equal, Less, AtMost, Not, And, Or, Implies, Exists, Forall, Prev, Next, Once, Historically, Since, Eventually}
+use Rattle.past_state.proofs.Vocabulary.{Always, Until, IsFree, AreFreeVariables, tree_of, BoundFormula, outermost, BindsFresh, denial, none_in_nil, Slot, LastHasColumns, Window, CanKeep, IsAlone}
+use Rattle.past_state.proofs.Vocabulary.{PushesFor, GuardAsks, AsksLeft, IsFor, operators, inner, AreFor, Left, Memory, OperatorState}
 use Rattle.std.specs.Prelude.{true, false, IsTrue}
 use Rattle.past_state.proofs.ColumnLemmas.{after}
 use Rattle.enf_data.specs.contracts.terms.VarIdPartialEq.TheImpl as variables

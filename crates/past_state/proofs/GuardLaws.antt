@@ -1,9 +1,7 @@
 -- Laws of the guards of a past state: they have the formulas of the guards that it was made for, and the names of each
 -- are among those of all.
-use Rattle.past_state.proofs.Vocabulary.{NameId, ◌≡◌, List, [], ◌∷◌, map, refl, ℕ, zero, suc, Contains}
-use Rattle.past_state.proofs.Vocabulary.{subst, sym, Contains-append_left, Contains-append_right, none-some, same_Some}
-use Rattle.past_state.proofs.Vocabulary.{names_in_formula, BoundFormula, PlacedGuard, AreCopies, tree_in}
-use Rattle.past_state.proofs.Vocabulary.{formulas_of_guards, IsGuard, guard_formula, guard_names}
+use Rattle.past_state.proofs.Vocabulary.{NameId, ◌≡◌, List, [], ◌∷◌, map, refl, ℕ, zero, suc, Contains, subst, sym, Contains-append_left, Contains-append_right, none-some, same_Some, names_in_formula}
+use Rattle.past_state.proofs.Vocabulary.{BoundFormula, PlacedGuard, AreCopies, tree_in, formulas_of_guards, IsGuard, guard_formula, guard_names}
 
 pub copies_formulas : (guards : List BoundFormula) (placed : List PlacedGuard) → AreCopies guards placed
     → formulas_of_guards placed ≡ map tree_in guards

@@ -1,13 +1,8 @@
 -- The guards of a past state, one after another.
-use Rattle.past_state.proofs.Vocabulary.{◌≡◌, ◌∙◌, ◌⊎◌, ℕ, zero, suc, ◌+◌, ◌-◌, ◌<◌}
-use Rattle.past_state.proofs.Vocabulary.{◌≤◌, List, [], ◌∷◌, ◌++◌, length, map, take, drop, reverse}
-use Rattle.past_state.proofs.Vocabulary.{get_or, All, IsTrue, Contains, refl, sym, ap, subst, arith, drop-cons}
-use Rattle.past_state.proofs.Vocabulary.{append-nil, length-append, length-drop, length-map, length-reverse, map-append}
-use Rattle.past_state.proofs.Vocabulary.{reverse-append, take_more, take_all, All-cons, All-nil, All-head, All-tail}
-use Rattle.past_state.proofs.Vocabulary.{All-push, Formula, IsFree, tree_of, is_past, BindsFresh, BoundFormula}
-use Rattle.past_state.proofs.Vocabulary.{outermost, tree_in, count_in, AreCopies, IsFreshGuard, IsPastGuard, PushesFor}
-use Rattle.past_state.proofs.Vocabulary.{operators, all_operators, all_outermost, BeginAt, IsPast, IsSoundGuard}
-use Rattle.past_state.proofs.Vocabulary.{formulas_of_guards, guard_formula, AreFor, PlacedGuard, OperatorState}
+use Rattle.past_state.proofs.Vocabulary.{◌≡◌, ◌∙◌, ◌⊎◌, ℕ, zero, suc, ◌+◌, ◌-◌, ◌<◌, ◌≤◌, List, [], ◌∷◌, ◌++◌, length, map, take, drop, reverse, get_or, All, IsTrue, Contains, refl, sym, ap, subst}
+use Rattle.past_state.proofs.Vocabulary.{arith, drop-cons, append-nil, length-append, length-drop, length-map, length-reverse, map-append, reverse-append, take_more, take_all, All-cons, All-nil}
+use Rattle.past_state.proofs.Vocabulary.{All-head, All-tail, All-push, Formula, IsFree, tree_of, is_past, BindsFresh, BoundFormula, outermost, tree_in, count_in, AreCopies, IsFreshGuard, IsPastGuard}
+use Rattle.past_state.proofs.Vocabulary.{PushesFor, operators, all_operators, all_outermost, BeginAt, IsPast, IsSoundGuard, formulas_of_guards, guard_formula, AreFor, PlacedGuard, OperatorState}
 use Rattle.past_state.proofs.GuardLaws.{copies_formulas}
 use Rattle.past_state.proofs.FirstMemoryLemmas.{pushes_both, pushes_none, outermost_fewer, pushed_long}
 

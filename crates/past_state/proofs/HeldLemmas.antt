@@ -1,9 +1,6 @@
 -- What held on a trace, with one step more.
-use Rattle.past_state.proofs.Vocabulary.{◌≡◌, ◌↔◌, ◌⊎◌, inl, inr, ⊎_elim, ℕ, suc, ◌-◌}
-use Rattle.past_state.proofs.Vocabulary.{◌<◌, List, [], ◌∷◌, ◌++◌, length, sym, subst, arith}
-use Rattle.past_state.proofs.Vocabulary.{length-append, cases_lt, get_or_append_left, step_at, no_step, IsIn, Valuation}
-use Rattle.past_state.proofs.Vocabulary.{Interval, Step, step_at_end, Relation, HasValuation, HeldAt, HeldWhere}
-use Rattle.past_state.proofs.Vocabulary.{ValuationSurvives, Survivors}
+use Rattle.past_state.proofs.Vocabulary.{◌≡◌, ◌↔◌, ◌⊎◌, inl, inr, ⊎_elim, ℕ, suc, ◌-◌, ◌<◌, List, [], ◌∷◌, ◌++◌, length, sym, subst, arith, length-append, cases_lt, get_or_append_left, step_at}
+use Rattle.past_state.proofs.Vocabulary.{no_step, IsIn, Valuation, Interval, Step, step_at_end, Relation, HasValuation, HeldAt, HeldWhere, ValuationSurvives, Survivors}
 use Rattle.past_state.proofs.Decided.{IsDecided, in_interval, in_table, survives_stable}
 
 pub earlier_at : (trace : List Step) (step : Step) (i : ℕ) → i < length trace → step_at (trace ++ step ∷ []) i ≡ step_at trace i

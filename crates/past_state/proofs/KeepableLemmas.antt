@@ -1,10 +1,7 @@
 -- What can be kept of a safe formula in which no quantifier binds a variable in scope.
-use Rattle.past_state.proofs.Vocabulary.{◌⊎◌, inl, inr, ⊎_elim, List, [], ◌++◌, All, Contains, Option, None}
-use Rattle.past_state.proofs.Vocabulary.{Some, All-append, All-nil, All-cons, VarId, Formula, True, False, Atom, Equal}
-use Rattle.past_state.proofs.Vocabulary.{Less, AtMost, Not, And, Or, Implies, Exists, Forall, Prev, Next, Once}
-use Rattle.past_state.proofs.Vocabulary.{Historically, Since, Eventually, Always, Until, IsFree, SafeBelow, NoneBound}
-use Rattle.past_state.proofs.Vocabulary.{BoundOrFreeIn, denial, BindsFresh, none_in_nil, among_or_not, CanKeep}
-use Rattle.past_state.proofs.Vocabulary.{IsFreshFormula, operators}
+use Rattle.past_state.proofs.Vocabulary.{◌⊎◌, inl, inr, ⊎_elim, List, [], ◌++◌, All, Contains, Option, None, Some, All-append, All-nil, All-cons, VarId, Formula, True, False, Atom, Equal, Less}
+use Rattle.past_state.proofs.Vocabulary.{AtMost, Not, And, Or, Implies, Exists, Forall, Prev, Next, Once, Historically, Since, Eventually, Always, Until, IsFree, SafeBelow, NoneBound, BoundOrFreeIn}
+use Rattle.past_state.proofs.Vocabulary.{denial, BindsFresh, none_in_nil, among_or_not, CanKeep, IsFreshFormula, operators}
 use Rattle.past_state.proofs.FirstMemoryLemmas.{fresh_fewer}
 
 alone : (g : Formula) (S : VarId → Type 0) → BindsFresh g S → ((x : VarId) → IsFree x g → S x) → IsFreshFormula g

@@ -1,9 +1,7 @@
 -- What a window keeps is what has to be kept of the trace, also with one step more.
-use Rattle.past_state.proofs.Vocabulary.{◌≡◌, ◌↔◌, inl, inr, ⊎_elim, ℕ, zero, suc, ◌+◌, ◌-◌}
-use Rattle.past_state.proofs.Vocabulary.{◌<◌, ◌≤◌, List, [], ◌∷◌, ◌++◌, length, Option, None, Some}
-use Rattle.past_state.proofs.Vocabulary.{refl, sym, subst, arith, step_at, IsIn, IsUpTo, Valuation, Step, last_time}
-use Rattle.past_state.proofs.Vocabulary.{Relation, HasValuation, ChosenBy, LeastIsChosen, Window, HasRow, IsCommittedBy}
-use Rattle.past_state.proofs.Vocabulary.{WindowKeeps, WindowRemembers, HeldAt, HasPairAt, KeptAt}
+use Rattle.past_state.proofs.Vocabulary.{◌≡◌, ◌↔◌, inl, inr, ⊎_elim, ℕ, zero, suc, ◌+◌, ◌-◌, ◌<◌, ◌≤◌, List, [], ◌∷◌, ◌++◌, length, Option, None, Some, refl, sym, subst, arith, step_at, IsIn, IsUpTo}
+use Rattle.past_state.proofs.Vocabulary.{Valuation, Step, last_time, Relation, HasValuation, ChosenBy, LeastIsChosen, Window, HasRow, IsCommittedBy, WindowKeeps, WindowRemembers, HeldAt, HasPairAt}
+use Rattle.past_state.proofs.Vocabulary.{KeptAt}
 use Rattle.past_state.proofs.ChosenLemmas.{not_below, chosen_on, serves_in}
 use Rattle.past_state.proofs.Decided.{stable, in_window, is_remembered}
 use Rattle.past_state.proofs.HeldLemmas.{held_from, held_now, held_on}

@@ -1,12 +1,7 @@
 -- The rows of a list under which a formula holds.
-use Rattle.past_state.proofs.Vocabulary.{◌≡◌, ◌∙◌, ◌↔◌, ⊎_elim, ℕ, ◌+◌, ◌<◌, ◌≤◌}
-use Rattle.past_state.proofs.Vocabulary.{true, false, IsTrue, List, [], ◌∷◌, ◌++◌, length, take, get_or, All}
-use Rattle.past_state.proofs.Vocabulary.{Contains, refl, sym, ap, subst, false≢true, take_more, take_all}
-use Rattle.past_state.proofs.Vocabulary.{Contains-append_cases, Contains-append_left, Contains-append_right}
-use Rattle.past_state.proofs.Vocabulary.{Contains-get_or, Formula, Valuation, no_values, valuation_of, Event, VarId}
-use Rattle.past_state.proofs.Vocabulary.{Value, HoldsNow, first_or_later, none_in_nil, value_at-with_inside}
-use Rattle.past_state.proofs.Vocabulary.{table_row-length, Relation, IsTable, HasValuation, AgreesWithRow}
-use Rattle.past_state.proofs.Vocabulary.{AgreeOnColumns}
+use Rattle.past_state.proofs.Vocabulary.{◌≡◌, ◌∙◌, ◌↔◌, ⊎_elim, ℕ, ◌+◌, ◌<◌, ◌≤◌, true, false, IsTrue, List, [], ◌∷◌, ◌++◌, length, take, get_or, All, Contains, refl, sym, ap, subst, false≢true}
+use Rattle.past_state.proofs.Vocabulary.{take_more, take_all, Contains-append_cases, Contains-append_left, Contains-append_right, Contains-get_or, Formula, Valuation, no_values, valuation_of, Event}
+use Rattle.past_state.proofs.Vocabulary.{VarId, Value, HoldsNow, first_or_later, none_in_nil, value_at-with_inside, table_row-length, Relation, IsTable, HasValuation, AgreesWithRow, AgreeOnColumns}
 use Rattle.std.proofs.Common.{Bool}
 
 -- w has the row's values

@@ -1,9 +1,7 @@
 -- Where the values of kept rows come from.
-use Rattle.past_state.proofs.Vocabulary.{◌⊎◌, inr, ℕ, ◌-◌, List, length, Contains, None, Valuation}
-use Rattle.past_state.proofs.Vocabulary.{Interval, Step, Formula, True, False, Atom, Equal, Less, AtMost, Not, And, Or}
-use Rattle.past_state.proofs.Vocabulary.{Implies, Exists, Forall, Prev, Next, Once, Historically, Since, Eventually}
-use Rattle.past_state.proofs.Vocabulary.{Always, Until, IsFree, Classically, Sat, HoldsAnywhere, denial, KeptAt}
-use Rattle.past_state.proofs.Vocabulary.{KeptHeld, OperatorsCanBeKept}
+use Rattle.past_state.proofs.Vocabulary.{◌⊎◌, inr, ℕ, ◌-◌, List, length, Contains, None, Valuation, Interval, Step, Formula, True, False, Atom, Equal, Less, AtMost, Not, And, Or, Implies, Exists}
+use Rattle.past_state.proofs.Vocabulary.{Forall, Prev, Next, Once, Historically, Since, Eventually, Always, Until, IsFree, Classically, Sat, HoldsAnywhere, denial, KeptAt, KeptHeld}
+use Rattle.past_state.proofs.Vocabulary.{OperatorsCanBeKept}
 use Rattle.past_state.proofs.KeepableLemmas.{keep_all}
 
 pub can_be_kept : OperatorsCanBeKept

@@ -1,17 +1,10 @@
 -- Where the values in the tables of a step come from.
-use Rattle.past_state.proofs.Vocabulary.{◌≡◌, ◌∙◌, ◌⊎◌, inl, inr, ⊎_elim, ℕ, ◌-◌, List, []}
-use Rattle.past_state.proofs.Vocabulary.{◌∷◌, ◌++◌, length, drop, reverse, get_or, Contains, Some, sym, ap}
-use Rattle.past_state.proofs.Vocabulary.{subst, arith, refl, slice_get, All-contains, Contains-append_cases}
-use Rattle.past_state.proofs.Vocabulary.{Contains-get_or, Valuation, Event, VarId, Value, Formula, True, False, Atom}
-use Rattle.past_state.proofs.Vocabulary.{Equal, Less, AtMost, Not, And, Or, Implies, Exists, Forall, Prev, Next, Once}
-use Rattle.past_state.proofs.Vocabulary.{Historically, Since, Eventually, Always, Until, tree_of, IsTabled}
-use Rattle.past_state.proofs.Vocabulary.{HasKnownValues, BoundFormula, denial, IsArgument, IsFormulaConstant}
-use Rattle.past_state.proofs.Vocabulary.{tabled_behind, later, first_or_later, none_in_nil, Relation, window_given}
-use Rattle.past_state.proofs.Vocabulary.{given_from, given_last_from, Stores, pair, Window, KeptPair, IsConstantOf}
-use Rattle.past_state.proofs.Vocabulary.{IsKeptValue, IsKnownOfGuard, TablesAreKnown, AnswersRows, IsFor, AreStepTables}
-use Rattle.past_state.proofs.Vocabulary.{memory_given, operators, all_operators, PastTables, formulas_of_guards}
-use Rattle.past_state.proofs.Vocabulary.{guard_formula, tables_of, AreFor, Runs, StoresFor, kept_row, survives_by}
-use Rattle.past_state.proofs.Vocabulary.{PlacedGuard, Memory, StepTables, OperatorState}
+use Rattle.past_state.proofs.Vocabulary.{◌≡◌, ◌∙◌, ◌⊎◌, inl, inr, ⊎_elim, ℕ, ◌-◌, List, [], ◌∷◌, ◌++◌, length, drop, reverse, get_or, Contains, Some, sym, ap, subst, arith, refl, slice_get}
+use Rattle.past_state.proofs.Vocabulary.{All-contains, Contains-append_cases, Contains-get_or, Valuation, Event, VarId, Value, Formula, True, False, Atom, Equal, Less, AtMost, Not, And, Or, Implies}
+use Rattle.past_state.proofs.Vocabulary.{Exists, Forall, Prev, Next, Once, Historically, Since, Eventually, Always, Until, tree_of, IsTabled, HasKnownValues, BoundFormula, denial, IsArgument}
+use Rattle.past_state.proofs.Vocabulary.{IsFormulaConstant, tabled_behind, later, first_or_later, none_in_nil, Relation, window_given, given_from, given_last_from, Stores, pair, Window, KeptPair}
+use Rattle.past_state.proofs.Vocabulary.{IsConstantOf, IsKeptValue, IsKnownOfGuard, TablesAreKnown, AnswersRows, IsFor, AreStepTables, memory_given, operators, all_operators, PastTables}
+use Rattle.past_state.proofs.Vocabulary.{formulas_of_guards, guard_formula, tables_of, AreFor, Runs, StoresFor, kept_row, survives_by, PlacedGuard, Memory, StepTables, OperatorState}
 use Rattle.past_state.proofs.PastLemmas.{OfGuard, all_reverse, same_guard}
 use Rattle.past_state.proofs.SavedLemmas.{counted_back}
 use Rattle.past_state.specs.declared.memories.Memory.TheVariants as memories

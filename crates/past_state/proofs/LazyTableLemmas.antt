@@ -1,16 +1,10 @@
 -- What operators answer that are asked at a step.
-use Rattle.past_state.proofs.Vocabulary.{◌≡◌, ◌∙◌, ◌↔◌, ℕ, suc, ◌+◌, ◌-◌, ◌<◌}
-use Rattle.past_state.proofs.Vocabulary.{◌≤◌, List, [], ◌∷◌, ◌++◌, length, take, drop, reverse, map}
-use Rattle.past_state.proofs.Vocabulary.{get_or, Option, None, Some, refl, sym, ap, subst, arith, drop-cons, slice_get}
-use Rattle.past_state.proofs.Vocabulary.{get_or-reverse, get_or-map, length-map, length-reverse, length-take, map_push}
-use Rattle.past_state.proofs.Vocabulary.{take-map, All-append, All-cons, All-get_or, All-head, All-nil, All-tail}
-use Rattle.past_state.proofs.Vocabulary.{All-take, get_or_from_slice_get, slice_get_read, Valuation, Event}
-use Rattle.past_state.proofs.Vocabulary.{slice_get-append_left, iff_then, Formula, Prev, Once, Historically, Since}
-use Rattle.past_state.proofs.Vocabulary.{FirstGivesUnder, FirstHas, Relation, HasValuation, AgreesWhereBound}
-use Rattle.past_state.proofs.Vocabulary.{window_given, Window, AnswersBy, SurvivesFor, Surviving, CanAnswer}
-use Rattle.past_state.proofs.Vocabulary.{CanAnswerAt, CanAskEach, LastFits, table_at, table_of_step, tables_at, IsFor}
-use Rattle.past_state.proofs.Vocabulary.{AreStepTables, IsUpToTimeOf, memory_given, AreOrderedOperators, AreUpToTimeOf}
-use Rattle.past_state.proofs.Vocabulary.{Runs, SurvivorsFit, IsViewOf, survives_by, Memory, StepTables, OperatorState}
+use Rattle.past_state.proofs.Vocabulary.{◌≡◌, ◌∙◌, ◌↔◌, ℕ, suc, ◌+◌, ◌-◌, ◌<◌, ◌≤◌, List, [], ◌∷◌, ◌++◌, length, take, drop, reverse, map, get_or, Option, None, Some, refl, sym, ap, subst, arith}
+use Rattle.past_state.proofs.Vocabulary.{drop-cons, slice_get, get_or-reverse, get_or-map, length-map, length-reverse, length-take, map_push, take-map, All-append, All-cons, All-get_or, All-head}
+use Rattle.past_state.proofs.Vocabulary.{All-nil, All-tail, All-take, get_or_from_slice_get, slice_get_read, Valuation, Event, slice_get-append_left, iff_then, Formula, Prev, Once, Historically}
+use Rattle.past_state.proofs.Vocabulary.{Since, FirstGivesUnder, FirstHas, Relation, HasValuation, AgreesWhereBound, window_given, Window, AnswersBy, SurvivesFor, Surviving, CanAnswer, CanAnswerAt}
+use Rattle.past_state.proofs.Vocabulary.{CanAskEach, LastFits, table_at, table_of_step, tables_at, IsFor, AreStepTables, IsUpToTimeOf, memory_given, AreOrderedOperators, AreUpToTimeOf, Runs}
+use Rattle.past_state.proofs.Vocabulary.{SurvivorsFit, IsViewOf, survives_by, Memory, StepTables, OperatorState}
 use Rattle.past_state.proofs.MemoryLemmas.{step_fits}
 use Rattle.past_state.proofs.OperatorRunLemmas.{at, ready, run_at}
 use Rattle.past_state.proofs.StackLemmas.{stack_below}

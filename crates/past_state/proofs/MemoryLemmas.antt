@@ -1,18 +1,11 @@
 -- What is kept for an operator, with one step more.
-use Rattle.past_state.proofs.Vocabulary.{◌≡◌, ◌∙◌, ◌↔◌, ◌⊎◌, inr, ℕ, ◌≤◌, IsTrue, List}
-use Rattle.past_state.proofs.Vocabulary.{[], ◌∷◌, ◌++◌, length, drop, Contains, refl, sym, subst, IsSome}
-use Rattle.past_state.proofs.Vocabulary.{and_parts, Valuation, value_at, BindsColumns, Event, Interval, Step, VarId}
-use Rattle.past_state.proofs.Vocabulary.{iff_then as then, step_at_end, Formula, Not, Implies, Prev, Once, Historically}
-use Rattle.past_state.proofs.Vocabulary.{Since, IsFree, AreFreeVariables, Sat, tree_of, is_past, BindsFresh}
-use Rattle.past_state.proofs.Vocabulary.{FitOperators, BoundFormula, HoldsNow, TablesStandFor, TableStandsFor, Tabled}
-use Rattle.past_state.proofs.Vocabulary.{outermost, PresentIsSatisfied, denial, fit_short, last_time, Relation}
-use Rattle.past_state.proofs.Vocabulary.{HasValuation, given_by_slot, given_last_answers, LastHasColumns, Window}
-use Rattle.past_state.proofs.Vocabulary.{AreTablesOf, SinceAnswers, SinceGoesOn, OnceAnswers, OnceGoesOn}
-use Rattle.past_state.proofs.Vocabulary.{HistoricallyIsDenied, PrevAnswers, PrevGoesOn, satisfied, everywhere}
-use Rattle.past_state.proofs.Vocabulary.{GuardAsks, CanAskRows, CanAskRowsUnder, AnswersRows, AsksLeft, AreSurvivors}
-use Rattle.past_state.proofs.Vocabulary.{CanAskLeft, LeftHolds, IsFor, CanStep, AreStepTables, FitMemory, MemoryStands}
-use Rattle.past_state.proofs.Vocabulary.{IsCommittedTo, IsSameMemory, memory_given, inner, ValuationSurvives}
-use Rattle.past_state.proofs.Vocabulary.{SurvivorsFit, Left, Memory, StepTables}
+use Rattle.past_state.proofs.Vocabulary.{◌≡◌, ◌∙◌, ◌↔◌, ◌⊎◌, inr, ℕ, ◌≤◌, IsTrue, List, [], ◌∷◌, ◌++◌, length, drop, Contains, refl, sym, subst, IsSome, and_parts, Valuation, value_at, BindsColumns}
+use Rattle.past_state.proofs.Vocabulary.{Event, Interval, Step, VarId, iff_then as then, step_at_end, Formula, Not, Implies, Prev, Once, Historically, Since, IsFree, AreFreeVariables, Sat, tree_of}
+use Rattle.past_state.proofs.Vocabulary.{is_past, BindsFresh, FitOperators, BoundFormula, HoldsNow, TablesStandFor, TableStandsFor, Tabled, outermost, PresentIsSatisfied, denial, fit_short, last_time}
+use Rattle.past_state.proofs.Vocabulary.{Relation, HasValuation, given_by_slot, given_last_answers, LastHasColumns, Window, AreTablesOf, SinceAnswers, SinceGoesOn, OnceAnswers, OnceGoesOn}
+use Rattle.past_state.proofs.Vocabulary.{HistoricallyIsDenied, PrevAnswers, PrevGoesOn, satisfied, everywhere, GuardAsks, CanAskRows, CanAskRowsUnder, AnswersRows, AsksLeft, AreSurvivors, CanAskLeft}
+use Rattle.past_state.proofs.Vocabulary.{LeftHolds, IsFor, CanStep, AreStepTables, FitMemory, MemoryStands, IsCommittedTo, IsSameMemory, memory_given, inner, ValuationSurvives, SurvivorsFit, Left}
+use Rattle.past_state.proofs.Vocabulary.{Memory, StepTables}
 use Rattle.past_state.proofs.SurvivorLemmas.{window_gives}
 use Rattle.past_state.specs.declared.left_sides.Left.TheVariants as side
 use Rattle.past_state.specs.declared.survivors.Survivors.TheVariants as told

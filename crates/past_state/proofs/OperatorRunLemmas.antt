@@ -1,15 +1,10 @@
 -- A step over all operators.
-use Rattle.past_state.proofs.Vocabulary.{◌≡◌, ◌∙◌, ◌↔◌, inr, ⊎_elim, ℕ, zero, suc, ◌+◌}
-use Rattle.past_state.proofs.Vocabulary.{◌-◌, ◌<◌, ◌≤◌, IsTrue, List, [], ◌∷◌, ◌++◌, length}
-use Rattle.past_state.proofs.Vocabulary.{take, drop, reverse, get_or, All, Contains, sym, ap, subst, arith}
-use Rattle.past_state.proofs.Vocabulary.{drop-append_seam, take_more, reverse-append, All-head, All-tail, Event, Step}
-use Rattle.past_state.proofs.Vocabulary.{VarId, Formula, Prev, Once, Historically, Since, IsFree, is_past, FitOperators}
-use Rattle.past_state.proofs.Vocabulary.{TablesStandFor, fit_short, last_time, Relation, IsFor, AreStepTables, CanStep}
-use Rattle.past_state.proofs.Vocabulary.{memory_given, inner, AreFor, AllStand, AreInsideOut, Runs, AreOrderedOperators}
-use Rattle.past_state.proofs.Vocabulary.{AllCommitted, AreSameKinds, Memory, StepTables, OperatorState}
+use Rattle.past_state.proofs.Vocabulary.{◌≡◌, ◌∙◌, ◌↔◌, inr, ⊎_elim, ℕ, zero, suc, ◌+◌, ◌-◌, ◌<◌, ◌≤◌, IsTrue, List, [], ◌∷◌, ◌++◌, length, take, drop, reverse, get_or, All, Contains, sym, ap, subst}
+use Rattle.past_state.proofs.Vocabulary.{arith, drop-append_seam, take_more, reverse-append, All-head, All-tail, Event, Step, VarId, Formula, Prev, Once, Historically, Since, IsFree, is_past}
+use Rattle.past_state.proofs.Vocabulary.{FitOperators, TablesStandFor, fit_short, last_time, Relation, IsFor, AreStepTables, CanStep, memory_given, inner, AreFor, AllStand, AreInsideOut, Runs}
+use Rattle.past_state.proofs.Vocabulary.{AreOrderedOperators, AllCommitted, AreSameKinds, Memory, StepTables, OperatorState}
 use Rattle.past_state.proofs.OuterOperators.{outer_onto}
-use Rattle.past_state.proofs.MemoryLemmas.{Laws, fit_back, fit_front, can_step, given_stands, committed_stands}
-use Rattle.past_state.proofs.MemoryLemmas.{denial_free, stand_front, stand_back, still_for}
+use Rattle.past_state.proofs.MemoryLemmas.{Laws, fit_back, fit_front, can_step, given_stands, committed_stands, denial_free, stand_front, stand_back, still_for}
 use Rattle.past_state.proofs.StackLemmas.{stack_below}
 use Rattle.past_state.specs.declared.memories.Memory.TheVariants as memories
 

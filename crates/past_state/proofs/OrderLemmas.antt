@@ -1,9 +1,7 @@
 -- The operators of formulas from the last in pre-order to the first: each comes just after those of its operands.
-use Rattle.past_state.proofs.Vocabulary.{◌≡◌, ◌∙◌, List, [], ◌∷◌, ◌++◌, reverse, refl, sym, ap}
-use Rattle.past_state.proofs.Vocabulary.{subst, append_assoc, drop-append_seam, reverse-append, Formula, True, False}
-use Rattle.past_state.proofs.Vocabulary.{Atom, Equal, Less, AtMost, Not, And, Or, Implies, Exists, Forall, Prev, Next}
-use Rattle.past_state.proofs.Vocabulary.{Once, Historically, Since, Eventually, Always, Until, outermost, operators}
-use Rattle.past_state.proofs.Vocabulary.{all_operators, all_outermost, inner, AreInsideOut}
+use Rattle.past_state.proofs.Vocabulary.{◌≡◌, ◌∙◌, List, [], ◌∷◌, ◌++◌, reverse, refl, sym, ap, subst, append_assoc, drop-append_seam, reverse-append, Formula, True, False, Atom, Equal, Less, AtMost}
+use Rattle.past_state.proofs.Vocabulary.{Not, And, Or, Implies, Exists, Forall, Prev, Next, Once, Historically, Since, Eventually, Always, Until, outermost, operators, all_operators, all_outermost}
+use Rattle.past_state.proofs.Vocabulary.{inner, AreInsideOut}
 use Rattle.past_state.proofs.OuterOperators.{outer_onto}
 
 -- the operators of a list come just after others, and leave these on top

@@ -1,23 +1,13 @@
 -- Past states step by step.
-use Rattle.past_state.proofs.Vocabulary.{◌≡◌, ◌∙◌, ◌↔◌, ⊎_elim, ℕ, zero, suc, ◌+◌, ◌<◌}
-use Rattle.past_state.proofs.Vocabulary.{◌≤◌, IsTrue, List, [], ◌∷◌, ◌++◌, length, drop, reverse}
-use Rattle.past_state.proofs.Vocabulary.{get_or, All, Contains, refl, sym, ap, subst, arith, append-nil, append_assoc}
-use Rattle.past_state.proofs.Vocabulary.{length-append, Bool, IsSome, same_Some, none-some, and_parts, reverse-append}
-use Rattle.past_state.proofs.Vocabulary.{All-append, All-nil, All-cons, All-head, All-tail, Event, NameId, Step}
-use Rattle.past_state.proofs.Vocabulary.{Formula, True, False, Atom, Equal, Less, AtMost, Not, And, Or, Implies, Exists}
-use Rattle.past_state.proofs.Vocabulary.{Forall, Prev, Next, Once, Historically, Since, Eventually, Always, Until, Sat}
-use Rattle.past_state.proofs.Vocabulary.{NamesDecide, HaveSameNamedEvents, HaveSameEvents, is_past, Valuation}
-use Rattle.past_state.proofs.Vocabulary.{BindsColumns, slice_get_at, iff_then, step_at_end, AreOpen, CanEvaluate}
-use Rattle.past_state.proofs.Vocabulary.{FitOperators, AreHoldingRows, HoldsNow, TablesStandFor, outermost}
-use Rattle.past_state.proofs.Vocabulary.{PresentIsSatisfied, FreeWithin, fit_short, among_or_not, Relation}
-use Rattle.past_state.proofs.Vocabulary.{HasValuation, AgreeOnColumns, last_time, memory_given, operators}
-use Rattle.past_state.proofs.Vocabulary.{all_operators, all_outermost, Past, PastTables, IsPast, IsSoundGuard}
-use Rattle.past_state.proofs.Vocabulary.{TablesStand, TablesStay, TablesWillStand, GuardsWillHold, AreMadeOf}
-use Rattle.past_state.proofs.Vocabulary.{AreTablesAtStep, PastCommitted, PastStands, RunStands, CommitStands}
-use Rattle.past_state.proofs.Vocabulary.{AreEvaluated, AreSatisfied, ArePastTables, HasOpenColumns, BeginAt, BindsBound}
-use Rattle.past_state.proofs.Vocabulary.{IsEvaluated, IsGuard, IsSatisfied, IsTestOf, formulas_of_guards, guard_formula}
-use Rattle.past_state.proofs.Vocabulary.{past_names, tables_of, AllStand, AreInsideOut, AreOrderedOperators}
-use Rattle.past_state.proofs.Vocabulary.{AllMemoriesFit, Runs, AreSameKinds, PlacedGuard, StepTables, OperatorState}
+use Rattle.past_state.proofs.Vocabulary.{◌≡◌, ◌∙◌, ◌↔◌, ⊎_elim, ℕ, zero, suc, ◌+◌, ◌<◌, ◌≤◌, IsTrue, List, [], ◌∷◌, ◌++◌, length, drop, reverse, get_or, All, Contains, refl, sym, ap, subst, arith}
+use Rattle.past_state.proofs.Vocabulary.{append-nil, append_assoc, length-append, Bool, IsSome, same_Some, none-some, and_parts, reverse-append, All-append, All-nil, All-cons, All-head, All-tail}
+use Rattle.past_state.proofs.Vocabulary.{Event, NameId, Step, Formula, True, False, Atom, Equal, Less, AtMost, Not, And, Or, Implies, Exists, Forall, Prev, Next, Once, Historically, Since, Eventually}
+use Rattle.past_state.proofs.Vocabulary.{Always, Until, Sat, NamesDecide, HaveSameNamedEvents, HaveSameEvents, is_past, Valuation, BindsColumns, slice_get_at, iff_then, step_at_end, AreOpen}
+use Rattle.past_state.proofs.Vocabulary.{CanEvaluate, FitOperators, AreHoldingRows, HoldsNow, TablesStandFor, outermost, PresentIsSatisfied, FreeWithin, fit_short, among_or_not, Relation}
+use Rattle.past_state.proofs.Vocabulary.{HasValuation, AgreeOnColumns, last_time, memory_given, operators, all_operators, all_outermost, Past, PastTables, IsPast, IsSoundGuard, TablesStand}
+use Rattle.past_state.proofs.Vocabulary.{TablesStay, TablesWillStand, GuardsWillHold, AreMadeOf, AreTablesAtStep, PastCommitted, PastStands, RunStands, CommitStands, AreEvaluated, AreSatisfied}
+use Rattle.past_state.proofs.Vocabulary.{ArePastTables, HasOpenColumns, BeginAt, BindsBound, IsEvaluated, IsGuard, IsSatisfied, IsTestOf, formulas_of_guards, guard_formula, past_names, tables_of}
+use Rattle.past_state.proofs.Vocabulary.{AllStand, AreInsideOut, AreOrderedOperators, AllMemoriesFit, Runs, AreSameKinds, PlacedGuard, StepTables, OperatorState}
 use Rattle.past_state.proofs.OuterOperators.{outer_onto}
 use Rattle.past_state.proofs.MemoryLemmas.{Laws, fit_back, fit_front, stand_back, stand_front, step_fits}
 use Rattle.past_state.proofs.OrderLemmas.{all_go}

@@ -1,18 +1,11 @@
 -- Windows and slots that are made again stand for each trace whose kept rows are theirs.
-use Rattle.past_state.proofs.Vocabulary.{◌≡◌, ◌∙◌, ◌↔◌, ⊎_elim, ℕ, suc, ◌+◌, ◌-◌, ◌<◌}
-use Rattle.past_state.proofs.Vocabulary.{◌≤◌, List, [], ◌∷◌, ◌++◌, reverse, length, All, Contains}
-use Rattle.past_state.proofs.Vocabulary.{Option, None, Some, refl, sym, ap, subst, arith, IsSome, slice_get}
-use Rattle.past_state.proofs.Vocabulary.{All-contains, reverse-reverse, false≢true, HasNoRepeats, IsIn, Valuation}
-use Rattle.past_state.proofs.Vocabulary.{value_at, BindsColumns, valuation_of, Interval, Step, VarId, Value, Formula}
-use Rattle.past_state.proofs.Vocabulary.{Prev, Once, Historically, Since, AreFreeVariables, Sat, HoldsAnywhere}
-use Rattle.past_state.proofs.Vocabulary.{FreeVariablesDecide, denial, last_time, here, later, first_or_later}
-use Rattle.past_state.proofs.Vocabulary.{none_in_nil, Contains-from_map, Contains-map, cell_here, cell_later}
-use Rattle.past_state.proofs.Vocabulary.{value_at-with_inside, AgreesWithRow, row_cell, stored_long, pair}
-use Rattle.past_state.proofs.Vocabulary.{pairs_of_last, Slot, GivesLast, HasLast, IsSlot, LastHasColumns, Window}
-use Rattle.past_state.proofs.Vocabulary.{HasRow, WindowRemembers, KeptPair, LastStep, HeldAt, WindowStands, HeldWhere}
-use Rattle.past_state.proofs.Vocabulary.{HasPairAt, KeptAt, AreKeptOf, IsRowToKeep, KeptFor, IsLastTime, kept_row}
-use Rattle.past_state.proofs.Vocabulary.{IsFor, IsUpToTimeOf, MemoryStands, columns_of, last_or_zero, AreRestored}
-use Rattle.past_state.proofs.Vocabulary.{AreFor, AllStand, IsWhole, StoresFor, KeptRow, Memory, OperatorState}
+use Rattle.past_state.proofs.Vocabulary.{◌≡◌, ◌∙◌, ◌↔◌, ⊎_elim, ℕ, suc, ◌+◌, ◌-◌, ◌<◌, ◌≤◌, List, [], ◌∷◌, ◌++◌, reverse, length, All, Contains, Option, None, Some, refl, sym, ap, subst, arith}
+use Rattle.past_state.proofs.Vocabulary.{IsSome, slice_get, All-contains, reverse-reverse, false≢true, HasNoRepeats, IsIn, Valuation, value_at, BindsColumns, valuation_of, Interval, Step, VarId}
+use Rattle.past_state.proofs.Vocabulary.{Value, Formula, Prev, Once, Historically, Since, AreFreeVariables, Sat, HoldsAnywhere, FreeVariablesDecide, denial, last_time, here, later, first_or_later}
+use Rattle.past_state.proofs.Vocabulary.{none_in_nil, Contains-from_map, Contains-map, cell_here, cell_later, value_at-with_inside, AgreesWithRow, row_cell, stored_long, pair, pairs_of_last, Slot}
+use Rattle.past_state.proofs.Vocabulary.{GivesLast, HasLast, IsSlot, LastHasColumns, Window, HasRow, WindowRemembers, KeptPair, LastStep, HeldAt, WindowStands, HeldWhere, HasPairAt, KeptAt, AreKeptOf}
+use Rattle.past_state.proofs.Vocabulary.{IsRowToKeep, KeptFor, IsLastTime, kept_row, IsFor, IsUpToTimeOf, MemoryStands, columns_of, last_or_zero, AreRestored, AreFor, AllStand, IsWhole, StoresFor}
+use Rattle.past_state.proofs.Vocabulary.{KeptRow, Memory, OperatorState}
 use Rattle.std.proofs.lemmas.List.{append-nil}
 use Rattle.past_state.proofs.BoundsLemmas.{kept_with}
 use Rattle.past_state.proofs.KeptLemmas.{remembers_held}

@@ -1,21 +1,12 @@
 -- Rows window by window, and windows and slots that are made again of them.
-use Rattle.past_state.proofs.Vocabulary.{◌≡◌, ◌∙◌, ◌↔◌, ◌⊎◌, inl, inr, ⊎_elim, ℕ, zero, suc}
-use Rattle.past_state.proofs.Vocabulary.{◌+◌, ◌<◌, ◌≤◌, List, [], ◌∷◌, ◌++◌, set, reverse}
-use Rattle.past_state.proofs.Vocabulary.{length, All, Contains, Option, None, Some, refl, sym, ap, subst, arith}
-use Rattle.past_state.proofs.Vocabulary.{append_assoc, length-append, Vec, slice_get, Global, length-reverse}
-use Rattle.past_state.proofs.Vocabulary.{length-set, reverse-append, reverse-reverse, All-cons, All-contains, All-nil}
-use Rattle.past_state.proofs.Vocabulary.{All-weaker, Contains-append_cases, Contains-append_left, Contains-append_right}
-use Rattle.past_state.proofs.Vocabulary.{none-some, same_Some, slice_get_within, Formula, Prev, Once, Historically}
-use Rattle.past_state.proofs.Vocabulary.{Since, AreFreeVariables, HasNoRepeats, Interval, VarId, only_item as only}
-use Rattle.past_state.proofs.Vocabulary.{all_from, slice_get-append_left, here, none_in_nil, ChosenBy, IsPairBefore}
-use Rattle.past_state.proofs.Vocabulary.{pair, rises_append, rises_front, AreKeepable, pairs_of_last, last_step_time}
-use Rattle.past_state.proofs.Vocabulary.{Slot, IsUpToTime, LastHasColumns, Window, KeptPair, LastStep, BoundFormula}
-use Rattle.past_state.proofs.Vocabulary.{PushesFor, IsFor, IsUpToTimeOf, columns_of, AreWithinBounds, HaveTime}
-use Rattle.past_state.proofs.Vocabulary.{IsKeepable, IsTimely, IsTimelyIn, IsFrom, kept_row, IsAtLast, last_or_zero}
-use Rattle.past_state.proofs.Vocabulary.{AreByWindow, AreKeepableFor, ArePairsIn, AreRestored, CanRestore}
-use Rattle.past_state.proofs.Vocabulary.{IsOneRestored, IsRestored, IsRestoredSlot, IsRestoredWindow, AreFor}
-use Rattle.past_state.proofs.Vocabulary.{AreSameKinds, AreUpToTimeOf, AreRowsRising, IsRowBefore, pair_of, kept_operand}
-use Rattle.past_state.proofs.Vocabulary.{StoresAt, StoresFor, KeptRow, Left, Memory, OperatorState}
+use Rattle.past_state.proofs.Vocabulary.{◌≡◌, ◌∙◌, ◌↔◌, ◌⊎◌, inl, inr, ⊎_elim, ℕ, zero, suc, ◌+◌, ◌<◌, ◌≤◌, List, [], ◌∷◌, ◌++◌, set, reverse, length, All, Contains, Option, None, Some, refl, sym, ap}
+use Rattle.past_state.proofs.Vocabulary.{subst, arith, append_assoc, length-append, Vec, slice_get, Global, length-reverse, length-set, reverse-append, reverse-reverse, All-cons, All-contains}
+use Rattle.past_state.proofs.Vocabulary.{All-nil, All-weaker, Contains-append_cases, Contains-append_left, Contains-append_right, none-some, same_Some, slice_get_within, Formula, Prev, Once}
+use Rattle.past_state.proofs.Vocabulary.{Historically, Since, AreFreeVariables, HasNoRepeats, Interval, VarId, only_item as only, all_from, slice_get-append_left, here, none_in_nil, ChosenBy}
+use Rattle.past_state.proofs.Vocabulary.{IsPairBefore, pair, rises_append, rises_front, AreKeepable, pairs_of_last, last_step_time, Slot, IsUpToTime, LastHasColumns, Window, KeptPair, LastStep}
+use Rattle.past_state.proofs.Vocabulary.{BoundFormula, PushesFor, IsFor, IsUpToTimeOf, columns_of, AreWithinBounds, HaveTime, IsKeepable, IsTimely, IsTimelyIn, IsFrom, kept_row, IsAtLast}
+use Rattle.past_state.proofs.Vocabulary.{last_or_zero, AreByWindow, AreKeepableFor, ArePairsIn, AreRestored, CanRestore, IsOneRestored, IsRestored, IsRestoredSlot, IsRestoredWindow, AreFor}
+use Rattle.past_state.proofs.Vocabulary.{AreSameKinds, AreUpToTimeOf, AreRowsRising, IsRowBefore, pair_of, kept_operand, StoresAt, StoresFor, KeptRow, Left, Memory, OperatorState}
 use Rattle.std.proofs.lemmas.List.{append-nil}
 use Rattle.past_state.proofs.FirstMemoryLemmas.{distinct}
 use Rattle.past_state.proofs.SavedLemmas.{at_place, columns_free, lengths}

@@ -1,16 +1,10 @@
 -- The worked cases of rows: what has to be kept for operators, and of what a past state can be made.
-use Rattle.past_state.proofs.Vocabulary.{◌≡◌, ◌∙◌, ◌⊎◌, inl, inr, ⊎_elim, ℕ, zero, suc, ◌<◌}
-use Rattle.past_state.proofs.Vocabulary.{◌≤◌, List, [], ◌∷◌, Contains, Some, length, refl, sym, ap, subst}
-use Rattle.past_state.proofs.Vocabulary.{arith, pos, slice_get, All-cons, All-head, All-nil, All-tail}
-use Rattle.past_state.proofs.Vocabulary.{sorted_from_all_adjacent, same_Some, step_at, row_cmp, Valuation, no_values}
-use Rattle.past_state.proofs.Vocabulary.{onto_values, valuation_of, value_at-insert, variable_cmp_total, Interval, Step}
-use Rattle.past_state.proofs.Vocabulary.{Var, VarId, Num, only_item as only, event_q, formula_p, formula_q, name_p}
-use Rattle.past_state.proofs.Vocabulary.{variable_x, Formula, Once, Prev, AreFreeVariables, Sat, HoldsAnywhere}
-use Rattle.past_state.proofs.Vocabulary.{IsEventAmong, same_free, first_or_later, here, none_in_nil, x_columns}
-use Rattle.past_state.proofs.Vocabulary.{x_number, number_row, case_within, same_number, IsKeptInWindow, case_guards}
-use Rattle.past_state.proofs.Vocabulary.{number_steps, p_of, p_of_x, q_since_p, HasPairAt, IsRowBefore, KeptFor}
-use Rattle.past_state.proofs.Vocabulary.{all_operators, kept_operand, HaveTime, IsKeepable, IsTimely, CaseRowsFit}
-use Rattle.past_state.proofs.Vocabulary.{CaseRowsFitBoth, first_window_row, second_window_row, once_in, KeptRow}
+use Rattle.past_state.proofs.Vocabulary.{◌≡◌, ◌∙◌, ◌⊎◌, inl, inr, ⊎_elim, ℕ, zero, suc, ◌<◌, ◌≤◌, List, [], ◌∷◌, Contains, Some, length, refl, sym, ap, subst, arith, pos, slice_get, All-cons}
+use Rattle.past_state.proofs.Vocabulary.{All-head, All-nil, All-tail, sorted_from_all_adjacent, same_Some, step_at, row_cmp, Valuation, no_values, onto_values, valuation_of, value_at-insert}
+use Rattle.past_state.proofs.Vocabulary.{variable_cmp_total, Interval, Step, Var, VarId, Num, only_item as only, event_q, formula_p, formula_q, name_p, variable_x, Formula, Once, Prev}
+use Rattle.past_state.proofs.Vocabulary.{AreFreeVariables, Sat, HoldsAnywhere, IsEventAmong, same_free, first_or_later, here, none_in_nil, x_columns, x_number, number_row, case_within, same_number}
+use Rattle.past_state.proofs.Vocabulary.{IsKeptInWindow, case_guards, number_steps, p_of, p_of_x, q_since_p, HasPairAt, IsRowBefore, KeptFor, all_operators, kept_operand, HaveTime, IsKeepable}
+use Rattle.past_state.proofs.Vocabulary.{IsTimely, CaseRowsFit, CaseRowsFitBoth, first_window_row, second_window_row, once_in, KeptRow}
 use Rattle.std.specs.declared.cmp.Ordering.TheVariants.{Less}
 use Rattle.past_state.proofs.BoundsLemmas.{kept_with}
 use Rattle.past_state.proofs.ChosenLemmas.{not_below}

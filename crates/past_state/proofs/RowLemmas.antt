@@ -1,6 +1,5 @@
 -- Rows as valuations, and what holds under them.
-use Rattle.past_state.proofs.Vocabulary.{◌≡◌, ◌∙◌, List, length, refl, sym, ap, subst, IsSome, HasNoRepeats}
-use Rattle.past_state.proofs.Vocabulary.{Valuation, no_values, variable_cmp, BindsColumns, valuation_of, VarId, Value}
+use Rattle.past_state.proofs.Vocabulary.{◌≡◌, ◌∙◌, List, length, refl, sym, ap, subst, IsSome, HasNoRepeats, Valuation, no_values, variable_cmp, BindsColumns, valuation_of, VarId, Value}
 use Rattle.past_state.proofs.Vocabulary.{value_at-with_inside, cell_some, filled_fresh, filled_from_row}
 use Rattle.std.specs.FinMap as finite
 

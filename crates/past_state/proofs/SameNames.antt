@@ -1,14 +1,9 @@
 -- What operators on the past remember and answer depends on the events of their names alone.
-use Rattle.past_state.proofs.Vocabulary.{◌≡◌, ◌∙◌, ◌↔◌, ⊎_elim, ℕ, zero, suc, ◌-◌, ◌<◌}
-use Rattle.past_state.proofs.Vocabulary.{◌≤◌, List, [], ◌∷◌, ◌++◌, length, drop, All, Contains, Option}
-use Rattle.past_state.proofs.Vocabulary.{None, Some, refl, sym, subst, arith, length-append, All-cons, All-head}
-use Rattle.past_state.proofs.Vocabulary.{All-nil, All-tail, Contains-append_cases, Contains-append_left}
-use Rattle.past_state.proofs.Vocabulary.{Contains-append_right, step_at, IsIn, Valuation, NameId, Interval, Step}
-use Rattle.past_state.proofs.Vocabulary.{Formula, Not, Implies, Prev, Once, Historically, Since, Sat, NamesDecide}
-use Rattle.past_state.proofs.Vocabulary.{HaveSameNamedEvents, HaveSameEvents, names_in_formula, TablesStandFor, Tabled}
-use Rattle.past_state.proofs.Vocabulary.{denial, last_time, Relation, ChosenBy, IsUpToTime, Window, HeldWhere}
-use Rattle.past_state.proofs.Vocabulary.{HasPairAt, KeptAt, everywhere, satisfied, MemoryStands, names_in_all, inner}
-use Rattle.past_state.proofs.Vocabulary.{AllStand, WindowStands, Memory, OperatorState}
+use Rattle.past_state.proofs.Vocabulary.{◌≡◌, ◌∙◌, ◌↔◌, ⊎_elim, ℕ, zero, suc, ◌-◌, ◌<◌, ◌≤◌, List, [], ◌∷◌, ◌++◌, length, drop, All, Contains, Option, None, Some, refl, sym, subst, arith}
+use Rattle.past_state.proofs.Vocabulary.{length-append, All-cons, All-head, All-nil, All-tail, Contains-append_cases, Contains-append_left, Contains-append_right, step_at, IsIn, Valuation, NameId}
+use Rattle.past_state.proofs.Vocabulary.{Interval, Step, Formula, Not, Implies, Prev, Once, Historically, Since, Sat, NamesDecide, HaveSameNamedEvents, HaveSameEvents, names_in_formula}
+use Rattle.past_state.proofs.Vocabulary.{TablesStandFor, Tabled, denial, last_time, Relation, ChosenBy, IsUpToTime, Window, HeldWhere, HasPairAt, KeptAt, everywhere, satisfied, MemoryStands}
+use Rattle.past_state.proofs.Vocabulary.{names_in_all, inner, AllStand, WindowStands, Memory, OperatorState}
 use Rattle.past_state.proofs.OuterOperators.{outer_onto}
 use Rattle.past_state.specs.declared.memories.Memory.TheVariants as memories
 

@@ -1,17 +1,10 @@
 -- The rows of a past state, window by window, and of which traces they are kept.
-use Rattle.past_state.proofs.Vocabulary.{◌≡◌, ◌∙◌, ◌↔◌, inl, inr, ⊎_elim, ℕ, zero, suc, ◌+◌}
-use Rattle.past_state.proofs.Vocabulary.{◌-◌, ◌<◌, List, [], ◌∷◌, ◌++◌, map, reverse, length, get_or}
-use Rattle.past_state.proofs.Vocabulary.{Contains, Some, refl, sym, ap, subst, arith, slice_get, cases_lt}
-use Rattle.past_state.proofs.Vocabulary.{get_or-reverse, length-reverse, Contains-append_cases, Contains-append_left}
-use Rattle.past_state.proofs.Vocabulary.{Contains-append_right, get_or_from_slice_get, same_Some, slice_get-get_or}
-use Rattle.past_state.proofs.Vocabulary.{slice_get_within, Step, Value, Formula, True, Prev, Once, Historically, Since}
-use Rattle.past_state.proofs.Vocabulary.{AreFreeVariables, same_free, none_in_nil, Contains-map, Contains-from_map}
-use Rattle.past_state.proofs.Vocabulary.{valuation_of, rises_append, rises_map, stored_last, stored_long, stored_row}
-use Rattle.past_state.proofs.Vocabulary.{AreRising, Stores, IsPairBefore, Window, HasRow, KeepsLeast, KeptPair}
-use Rattle.past_state.proofs.Vocabulary.{columns_of, IsFor, MemoryStands, all_operators, kept_operand, AreKeptOf}
-use Rattle.past_state.proofs.Vocabulary.{AreRowsRising, IsRowBefore, KeptFor, pair_of, Past, IsPast, formulas_of_guards}
-use Rattle.past_state.proofs.Vocabulary.{AreFor, AllStand, kept_row, IsWhole, StoresAt, StoresFor, KeptRow, Memory}
-use Rattle.past_state.proofs.Vocabulary.{OperatorState}
+use Rattle.past_state.proofs.Vocabulary.{◌≡◌, ◌∙◌, ◌↔◌, inl, inr, ⊎_elim, ℕ, zero, suc, ◌+◌, ◌-◌, ◌<◌, List, [], ◌∷◌, ◌++◌, map, reverse, length, get_or, Contains, Some, refl, sym, ap, subst, arith}
+use Rattle.past_state.proofs.Vocabulary.{slice_get, cases_lt, get_or-reverse, length-reverse, Contains-append_cases, Contains-append_left, Contains-append_right, get_or_from_slice_get, same_Some}
+use Rattle.past_state.proofs.Vocabulary.{slice_get-get_or, slice_get_within, Step, Value, Formula, True, Prev, Once, Historically, Since, AreFreeVariables, same_free, none_in_nil, Contains-map}
+use Rattle.past_state.proofs.Vocabulary.{Contains-from_map, valuation_of, rises_append, rises_map, stored_last, stored_long, stored_row, AreRising, Stores, IsPairBefore, Window, HasRow, KeepsLeast}
+use Rattle.past_state.proofs.Vocabulary.{KeptPair, columns_of, IsFor, MemoryStands, all_operators, kept_operand, AreKeptOf, AreRowsRising, IsRowBefore, KeptFor, pair_of, Past, IsPast}
+use Rattle.past_state.proofs.Vocabulary.{formulas_of_guards, AreFor, AllStand, kept_row, IsWhole, StoresAt, StoresFor, KeptRow, Memory, OperatorState}
 use Rattle.past_state.proofs.RowLemmas.{row_binds}
 use Rattle.past_state.specs.declared.memories.Memory.TheVariants as memories
 

@@ -1,18 +1,11 @@
 -- Rows that can be kept, and one more after the last of them.
-use Rattle.past_state.proofs.Vocabulary.{◌≡◌, ◌∙◌, ◌↔◌, ◌⊎◌, inl, inr, ⊎_elim, ℕ, suc}
-use Rattle.past_state.proofs.Vocabulary.{◌<◌, ◌≤◌, List, [], ◌∷◌, ◌++◌, append_assoc, get_or}
-use Rattle.past_state.proofs.Vocabulary.{length, map, All, Contains, Option, None, Some, refl, sym, ap, subst, arith}
-use Rattle.past_state.proofs.Vocabulary.{slice_get, tied_itself, Greater, All-contains, Contains-append_cases}
-use Rattle.past_state.proofs.Vocabulary.{Contains-append_left, Contains-append_right, option_map, length-map}
-use Rattle.past_state.proofs.Vocabulary.{map-append, none-some, same_Some, slice_get-get_or, slice_get-map}
-use Rattle.past_state.proofs.Vocabulary.{slice_get_past, row_cmp, Value, there_from_get, here, none_in_nil, VarId}
-use Rattle.past_state.proofs.Vocabulary.{all_from, only_item as only, Formula, Not, Implies, Prev, Once, Historically}
-use Rattle.past_state.proofs.Vocabulary.{Since, AreFreeVariables, same_free, denial, row_cmp_total, ChosenBy}
-use Rattle.past_state.proofs.Vocabulary.{IsPairBefore, pair, rises_append, rises_front, KeptPair, AreWithinBounds}
-use Rattle.past_state.proofs.Vocabulary.{HaveTime, IsKeepable, IsTimely, kept_row, numbered_operators, IsRowBefore}
-use Rattle.past_state.proofs.Vocabulary.{pair_of, kept_operand, all_operators, operators, AreOfOne, RowCanFollow}
-use Rattle.past_state.proofs.Vocabulary.{ComesBehind, FitsIn, HasItsColumns, HasOtherValues, TimeJoins, TimeJoinsBy}
-use Rattle.past_state.proofs.Vocabulary.{operator_of, KeptRow, WindowShape}
+use Rattle.past_state.proofs.Vocabulary.{◌≡◌, ◌∙◌, ◌↔◌, ◌⊎◌, inl, inr, ⊎_elim, ℕ, suc, ◌<◌, ◌≤◌, List, [], ◌∷◌, ◌++◌, append_assoc, get_or, length, map, All, Contains, Option, None, Some, refl, sym}
+use Rattle.past_state.proofs.Vocabulary.{ap, subst, arith, slice_get, tied_itself, Greater, All-contains, Contains-append_cases, Contains-append_left, Contains-append_right, option_map, length-map}
+use Rattle.past_state.proofs.Vocabulary.{map-append, none-some, same_Some, slice_get-get_or, slice_get-map, slice_get_past, row_cmp, Value, there_from_get, here, none_in_nil, VarId, all_from}
+use Rattle.past_state.proofs.Vocabulary.{only_item as only, Formula, Not, Implies, Prev, Once, Historically, Since, AreFreeVariables, same_free, denial, row_cmp_total, ChosenBy, IsPairBefore, pair}
+use Rattle.past_state.proofs.Vocabulary.{rises_append, rises_front, KeptPair, AreWithinBounds, HaveTime, IsKeepable, IsTimely, kept_row, numbered_operators, IsRowBefore, pair_of, kept_operand}
+use Rattle.past_state.proofs.Vocabulary.{all_operators, operators, AreOfOne, RowCanFollow, ComesBehind, FitsIn, HasItsColumns, HasOtherValues, TimeJoins, TimeJoinsBy, operator_of, KeptRow}
+use Rattle.past_state.proofs.Vocabulary.{WindowShape}
 use Rattle.std.specs.declared.cmp.Ordering.TheVariants.{Less}
 
 -- ---- the order of rows

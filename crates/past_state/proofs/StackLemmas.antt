@@ -1,7 +1,6 @@
 -- Stacks of tables, the first of which stands last.
-use Rattle.past_state.proofs.Vocabulary.{◌≡◌, ◌∙◌, ℕ, ◌-◌, ◌≤◌, List, ◌++◌, length, take}
-use Rattle.past_state.proofs.Vocabulary.{drop, reverse, sym, ap, arith, drop-append_seam, length-reverse, length-drop}
-use Rattle.past_state.proofs.Vocabulary.{reverse-append, take-append-drop, Relation}
+use Rattle.past_state.proofs.Vocabulary.{◌≡◌, ◌∙◌, ℕ, ◌-◌, ◌≤◌, List, ◌++◌, length, take, drop, reverse, sym, ap, arith, drop-append_seam, length-reverse, length-drop, reverse-append}
+use Rattle.past_state.proofs.Vocabulary.{take-append-drop, Relation}
 
 -- what stands below the top of a stack
 pub below_top : (xs : List Relation) (n : ℕ) → n ≤ length xs → reverse (take (length xs - n) xs) ≡ drop n (reverse xs)

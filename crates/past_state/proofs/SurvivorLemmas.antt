@@ -1,8 +1,6 @@
 -- Survivors as windows see them.
-use Rattle.past_state.proofs.Vocabulary.{◌≡◌, ◌↔◌, ℕ, IsTrue, List, refl, sym, subst, Valuation, VarId}
-use Rattle.past_state.proofs.Vocabulary.{Value, Relation, AgreesWithRow, HasValuation, window_given, among_has}
-use Rattle.past_state.proofs.Vocabulary.{given_answers, outside_has, Window, AnswersBy, SurvivesFor, Surviving}
-use Rattle.past_state.proofs.Vocabulary.{ValuationSurvives, SurvivorsFit, IsViewOf, survives_by, Survivors}
+use Rattle.past_state.proofs.Vocabulary.{◌≡◌, ◌↔◌, ℕ, IsTrue, List, refl, sym, subst, Valuation, VarId, Value, Relation, AgreesWithRow, HasValuation, window_given, among_has, given_answers}
+use Rattle.past_state.proofs.Vocabulary.{outside_has, Window, AnswersBy, SurvivesFor, Surviving, ValuationSurvives, SurvivorsFit, IsViewOf, survives_by, Survivors}
 use Rattle.windows.specs.declared.surviving_rows.Surviving.TheVariants as seen
 use Rattle.past_state.specs.declared.survivors.Survivors.TheVariants as told
 

@@ -1,13 +1,9 @@
 -- What the names that no guard looks for change: nothing of the guards, and nothing of the tables.
-use Rattle.past_state.proofs.Vocabulary.{List, [], ◌∷◌, ◌++◌, All, Contains, Option, None, Some, length, refl}
-use Rattle.past_state.proofs.Vocabulary.{sym, subst, arith, All-append, All-nil, All-cons, Contains-append_left}
-use Rattle.past_state.proofs.Vocabulary.{Contains-append_right, Valuation, values_of_terms, with_values, Event, NameId}
-use Rattle.past_state.proofs.Vocabulary.{Step, Value, Formula, True, False, Atom, Equal, Less, AtMost, Not, And, Or}
-use Rattle.past_state.proofs.Vocabulary.{Implies, Exists, Forall, Prev, Next, Once, Historically, Since, Eventually}
-use Rattle.past_state.proofs.Vocabulary.{Always, Until, IsEventAmong, NamesDecide, HaveSameEvents, names_in_formula}
-use Rattle.past_state.proofs.Vocabulary.{HoldsNow, tables_beyond, Relation, names_in_all, operators, all_operators}
-use Rattle.past_state.proofs.Vocabulary.{UnreadGuardsHold, UnreadTablesStay, formulas_of_guards, guard_formula}
-use Rattle.past_state.proofs.Vocabulary.{guard_names, past_names, tables_of, PlacedGuard}
+use Rattle.past_state.proofs.Vocabulary.{List, [], ◌∷◌, ◌++◌, All, Contains, Option, None, Some, length, refl, sym, subst, arith, All-append, All-nil, All-cons, Contains-append_left}
+use Rattle.past_state.proofs.Vocabulary.{Contains-append_right, Valuation, values_of_terms, with_values, Event, NameId, Step, Value, Formula, True, False, Atom, Equal, Less, AtMost, Not, And, Or}
+use Rattle.past_state.proofs.Vocabulary.{Implies, Exists, Forall, Prev, Next, Once, Historically, Since, Eventually, Always, Until, IsEventAmong, NamesDecide, HaveSameEvents, names_in_formula}
+use Rattle.past_state.proofs.Vocabulary.{HoldsNow, tables_beyond, Relation, names_in_all, operators, all_operators, UnreadGuardsHold, UnreadTablesStay, formulas_of_guards, guard_formula, guard_names}
+use Rattle.past_state.proofs.Vocabulary.{past_names, tables_of, PlacedGuard}
 use Rattle.past_state.proofs.GuardLaws.{looks_at}
 use Rattle.past_state.proofs.PastLemmas.{tables_stay}
 use Rattle.past_state.proofs.SameNames.{Within, names_within, same_with}

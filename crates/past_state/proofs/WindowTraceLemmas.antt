@@ -1,13 +1,8 @@
 -- Windows that go on standing for a trace.
-use Rattle.past_state.proofs.Vocabulary.{◌≡◌, ◌∙◌, ◌↔◌, ◌⊎◌, Contains, ℕ, suc, ◌-◌}
-use Rattle.past_state.proofs.Vocabulary.{◌<◌, ◌≤◌, IsTrue, List, [], ◌∷◌, ◌++◌, length, sym, subst}
-use Rattle.past_state.proofs.Vocabulary.{arith, length-append, step_at, IsIn, Valuation, BindsColumns, Interval, Step}
-use Rattle.past_state.proofs.Vocabulary.{iff_then as then, step_at_end, IsFree, Formula, Not, Implies, Once}
-use Rattle.past_state.proofs.Vocabulary.{Historically, Sat, HeldSince, HoldsAnywhere, IsStable, PastDecides, is_past}
-use Rattle.past_state.proofs.Vocabulary.{denial, last_time, LastIsTheNew, Relation, HasValuation, LeastIsChosen}
-use Rattle.past_state.proofs.Vocabulary.{RememberedIsKept, Window, AnswersBy, HasRow, IsCommittedBy, WindowKeeps}
-use Rattle.past_state.proofs.Vocabulary.{WindowRemembers, HeldAt, WindowStands, HasPairAt, KeptAt, AreTablesOf}
-use Rattle.past_state.proofs.Vocabulary.{satisfied, ValuationSurvives, Survivors}
+use Rattle.past_state.proofs.Vocabulary.{◌≡◌, ◌∙◌, ◌↔◌, ◌⊎◌, Contains, ℕ, suc, ◌-◌, ◌<◌, ◌≤◌, IsTrue, List, [], ◌∷◌, ◌++◌, length, sym, subst, arith, length-append, step_at, IsIn, Valuation}
+use Rattle.past_state.proofs.Vocabulary.{BindsColumns, Interval, Step, iff_then as then, step_at_end, IsFree, Formula, Not, Implies, Once, Historically, Sat, HeldSince, HoldsAnywhere, IsStable}
+use Rattle.past_state.proofs.Vocabulary.{PastDecides, is_past, denial, last_time, LastIsTheNew, Relation, HasValuation, LeastIsChosen, RememberedIsKept, Window, AnswersBy, HasRow, IsCommittedBy}
+use Rattle.past_state.proofs.Vocabulary.{WindowKeeps, WindowRemembers, HeldAt, WindowStands, HasPairAt, KeptAt, AreTablesOf, satisfied, ValuationSurvives, Survivors}
 use Rattle.past_state.proofs.HeldLemmas.{earlier_at, goes_on}
 use Rattle.past_state.proofs.KeptLemmas.{kept_now, kept_on}
 

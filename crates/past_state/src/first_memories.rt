@@ -6,7 +6,7 @@ ghost use Rattle.enf_formula.specs.meaning.Satisfaction.{IsFree};
 ghost use Rattle.enf_data.specs.declared.terms.VarId.{VarId as Variable};
 ghost use Rattle.monitorable_guard.specs.machine.PresentMeaning.{outermost};
 ghost use Rattle.monitorable_guard.specs.meaning.Safety.{Safe, NoneBound, BoundOrFreeIn, denial};
-ghost use Rattle.enf_formula.specs.meaning.FormulaShape.{BindsFresh};
+ghost use Rattle.enf_formula.specs.machine.FormulaShape.{BindsFresh};
 ghost use Rattle.past_state.specs.machine.KeepableOperators.{IsFreshFormula, CanKeep, IsAlone, PushesFor};
 ghost use Rattle.past_state.specs.machine.LeftSides.{AsksLeft};
 ghost use Rattle.past_state.specs.machine.Memories.{IsFor};

@@ -7,7 +7,7 @@ ghost use Rattle.enf_data.specs.meaning.Valuations.{Valuation as Bound, BindsCol
 ghost use Rattle.enf_data.specs.declared.terms.VarId.{VarId as Variable};
 ghost use Rattle.monitorable_guard.specs.machine.Evaluation.{FitOperators};
 ghost use Rattle.monitorable_guard.specs.machine.PresentMeaning.{HoldsNow, outermost};
-ghost use Rattle.enf_formula.specs.meaning.FormulaShape.{BindsFresh};
+ghost use Rattle.enf_formula.specs.machine.FormulaShape.{BindsFresh};
 ghost use Rattle.past_state.specs.machine.OperandQueries.{AllComeFrom};
 ghost use Rattle.valuations.specs.machine.Tables.{IsTable, HasValuation, AgreeOnColumns};
 

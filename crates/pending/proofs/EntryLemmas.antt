@@ -1,12 +1,8 @@
 -- Pending instances as entries.
-use Rattle.pending.proofs.Vocabulary.{◌≡◌, ℕ, suc, ◌+◌, ◌<◌, List, [], ◌∷◌, ◌++◌, Contains}
-use Rattle.pending.proofs.Vocabulary.{⊎_elim, refl, sym, ap, subst, ◌∙◌, arith, get_or, length, map}
-use Rattle.pending.proofs.Vocabulary.{AllByRecursion, sum_by-append, map-append, AllByRecursion-append}
-use Rattle.pending.proofs.Vocabulary.{AllByRecursion-of_append, first_or_later, here, later, none_in_nil, Plan}
-use Rattle.pending.proofs.Vocabulary.{ArePlaced, HasOneMoreEntry, IsFreePlace, entry_places, fewer_placed}
-use Rattle.pending.proofs.Vocabulary.{IsPlaceBefore, Place, places_from, beginning_at, PutsInEntries, TakesOutEntries}
-use Rattle.pending.proofs.Vocabulary.{Entry, count_due, Instance, wake_patterns_of, ArePendingEntries, FitsStep}
-use Rattle.pending.proofs.Vocabulary.{entries_from, entry_at, items_of, waits_of}
+use Rattle.pending.proofs.Vocabulary.{◌≡◌, ℕ, suc, ◌+◌, ◌<◌, List, [], ◌∷◌, ◌++◌, Contains, ⊎_elim, refl, sym, ap, subst, ◌∙◌, arith, get_or, length, map, AllByRecursion, sum_by-append, map-append}
+use Rattle.pending.proofs.Vocabulary.{AllByRecursion-append, AllByRecursion-of_append, first_or_later, here, later, none_in_nil, Plan, ArePlaced, HasOneMoreEntry, IsFreePlace, entry_places}
+use Rattle.pending.proofs.Vocabulary.{fewer_placed, IsPlaceBefore, Place, places_from, beginning_at, PutsInEntries, TakesOutEntries, Entry, count_due, Instance, wake_patterns_of, ArePendingEntries}
+use Rattle.pending.proofs.Vocabulary.{FitsStep, entries_from, entry_at, items_of, waits_of}
 
 -- ---- entries that go on from a place
 

@@ -1,9 +1,7 @@
 -- A walk over what is pending.
-use Rattle.pending.proofs.Vocabulary.{◌≡◌, ℕ, Bool, true, false, cond, List, [], ◌∷◌, ◌++◌, Contains}
-use Rattle.pending.proofs.Vocabulary.{⊎_elim, refl, sym, ap, subst, ◌∙◌, map, append_assoc, AllByRecursion}
-use Rattle.pending.proofs.Vocabulary.{append-nil, AllByRecursion-append, first_or_later, here, later, none_in_nil, Plan}
-use Rattle.pending.proofs.Vocabulary.{HasOneMoreEntry, EntryOutcome, TakesOutEntries, begun_entries, gone_entries}
-use Rattle.pending.proofs.Vocabulary.{Entry, Instance, Now, EntryBecomes, WalksEntries, items_of}
+use Rattle.pending.proofs.Vocabulary.{◌≡◌, ℕ, Bool, true, false, cond, List, [], ◌∷◌, ◌++◌, Contains, ⊎_elim, refl, sym, ap, subst, ◌∙◌, map, append_assoc, AllByRecursion, append-nil}
+use Rattle.pending.proofs.Vocabulary.{AllByRecursion-append, first_or_later, here, later, none_in_nil, Plan, HasOneMoreEntry, EntryOutcome, TakesOutEntries, begun_entries, gone_entries, Entry}
+use Rattle.pending.proofs.Vocabulary.{Instance, Now, EntryBecomes, WalksEntries, items_of}
 use Rattle.pending.proofs.EntryLemmas.{takes_append}
 
 entries_put : (outcomes : List (EntryOutcome Instance)) (o : EntryOutcome Instance) (ahead : List (Entry Instance))

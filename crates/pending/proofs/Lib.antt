@@ -1,5 +1,4 @@
 pub mod Vocabulary
-pub mod CaseLemmas
 pub mod EntryLemmas
 pub mod EntryStepLemmas
 pub mod PendingListLemmas

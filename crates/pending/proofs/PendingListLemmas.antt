@@ -1,8 +1,6 @@
 -- A list of pending instances as its callers see it.
-use Rattle.pending.proofs.Vocabulary.{◌≡◌, ℕ, List, [], ◌∷◌, ⊎_elim, inl, inr, sym, ap, ◌∙◌}
-use Rattle.pending.proofs.Vocabulary.{arith, map, drop, get_or, None, AllByRecursion, Event, Plan, AllButThose}
-use Rattle.pending.proofs.Vocabulary.{IsAsleep, Entry, Instance, FitsStep, items_of, waits_of, SleepsAt}
-use Rattle.pending.proofs.Vocabulary.{wake_patterns_of}
+use Rattle.pending.proofs.Vocabulary.{◌≡◌, ℕ, List, [], ◌∷◌, ⊎_elim, inl, inr, sym, ap, ◌∙◌, arith, map, drop, get_or, None, AllByRecursion, Event, Plan, AllButThose, IsAsleep, Entry, Instance}
+use Rattle.pending.proofs.Vocabulary.{FitsStep, items_of, waits_of, SleepsAt, wake_patterns_of}
 
 -- those that are awake are all but those that sleep
 pub items_but : (plans : List Plan) (events : List Event) (time steps : ℕ) (all rest : List (Entry Instance))

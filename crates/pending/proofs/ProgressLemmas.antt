@@ -1,19 +1,11 @@
 -- What was pending, after a step.
-use Rattle.pending.proofs.Vocabulary.{◌≡◌, ℕ, suc, ◌+◌, ◌-◌, ◌<◌, ◌≤◌, ◌^◌, ◌==◌}
-use Rattle.pending.proofs.Vocabulary.{Bool, true, false, cond, List, [], ◌∷◌, ◌++◌, Contains, ◌⊎◌, inl}
-use Rattle.pending.proofs.Vocabulary.{inr, ⊎_elim, refl, sym, ap, subst, ◌∙◌, arith, length, map, drop, get_or}
-use Rattle.pending.proofs.Vocabulary.{Option, None, AllByRecursion, and_right, ne_eqb, append-nil}
-use Rattle.pending.proofs.Vocabulary.{AllByRecursion-append, AllByRecursion-contains, AllByRecursion-weaker}
-use Rattle.pending.proofs.Vocabulary.{Contains-append, first_or_later, here, later, none_in_nil, Step, Plan}
-use Rattle.pending.proofs.Vocabulary.{has_deadline, IsAllBut, IsAsleep, entry_places, Place, WasMade, places_from}
-use Rattle.pending.proofs.Vocabulary.{beginning_at, HasNone, CanPutIn, OutcomeGoesOn, IsInOrder, IsOneOr, IsStep}
-use Rattle.pending.proofs.Vocabulary.{EntryOutcome, PutsInEntries, begun_entries, entries_behind, StepsCanPutIn}
-use Rattle.pending.proofs.Vocabulary.{StepsGoInOrder, Entry, Beginning, IsNowOf, guards_at, time_now, Gathers}
-use Rattle.pending.proofs.Vocabulary.{AreServed, is_forced_at, ComesOf, NowLeads, AfterExists, After, AtNode}
-use Rattle.pending.proofs.Vocabulary.{PendingAfter, node_of, IsBegunUnder, CanAskOf, HasPart, Instance, Now}
-use Rattle.pending.proofs.Vocabulary.{EntryBecomes, CarriesPending, WalksEntries, ArePendingEntries, FitsStep}
-use Rattle.pending.proofs.Vocabulary.{entries_from, items_of, waits_of, IsPendingListOf, PendingList, SleepersStay}
-use Rattle.pending.proofs.Vocabulary.{wake_patterns_of}
+use Rattle.pending.proofs.Vocabulary.{◌≡◌, ℕ, suc, ◌+◌, ◌-◌, ◌<◌, ◌≤◌, ◌^◌, ◌==◌, Bool, true, false, cond, List, [], ◌∷◌, ◌++◌, Contains, ◌⊎◌, inl, inr, ⊎_elim, refl, sym, ap, subst, ◌∙◌, arith}
+use Rattle.pending.proofs.Vocabulary.{length, map, drop, get_or, Option, None, AllByRecursion, and_right, ne_eqb, append-nil, AllByRecursion-append, AllByRecursion-contains, AllByRecursion-weaker}
+use Rattle.pending.proofs.Vocabulary.{Contains-append, first_or_later, here, later, none_in_nil, Step, Plan, has_deadline, IsAllBut, IsAsleep, entry_places, Place, WasMade, places_from, beginning_at}
+use Rattle.pending.proofs.Vocabulary.{HasNone, CanPutIn, OutcomeGoesOn, IsInOrder, IsOneOr, IsStep, EntryOutcome, PutsInEntries, begun_entries, entries_behind, StepsCanPutIn, StepsGoInOrder, Entry}
+use Rattle.pending.proofs.Vocabulary.{Beginning, IsNowOf, guards_at, time_now, Gathers, AreServed, is_forced_at, ComesOf, NowLeads, AfterExists, After, AtNode, PendingAfter, node_of, IsBegunUnder}
+use Rattle.pending.proofs.Vocabulary.{CanAskOf, HasPart, Instance, Now, EntryBecomes, CarriesPending, WalksEntries, ArePendingEntries, FitsStep, entries_from, items_of, waits_of, IsPendingListOf}
+use Rattle.pending.proofs.Vocabulary.{PendingList, SleepersStay, wake_patterns_of}
 use Rattle.pending.proofs.EntryLemmas.{entries_items, entries_places, items_append}
 use Rattle.pending.proofs.WakePatternLemmas.{not_over}
 

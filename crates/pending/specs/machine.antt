@@ -1,5 +1,4 @@
-pub mod Cases
-pub mod WakePatterns
+pub mod InstancePatterns
 pub mod PendingEntries
 pub mod EntrySteps
 pub mod Laws

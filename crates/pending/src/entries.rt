@@ -3,9 +3,8 @@ ghost use Rattle.std.specs.Prelude.{◌≡◌, ◌++◌, ◌∷◌, [], IfOk, On
 ghost use Rattle.plan_terms.specs.machine.StoredPlans.{plan_of};
 ghost use Rattle.pending.specs.machine.PendingEntries.{entries_from, entry_at, items_of};
 ghost use Rattle.sleepers.specs.machine.Entries.{shown};
-ghost use Rattle.pending.specs.machine.WakePatterns.{wake_patterns_of};
+ghost use Rattle.pending.specs.machine.InstancePatterns.{wake_patterns_of};
 
-use crate::wake_patterns::patterns_of;
 use enf_data::memory::NoMemory;
 use obligations::Instance;
 use obligations::pending_parts::node_in;
@@ -13,6 +12,7 @@ use plan_terms::Plan;
 use sleepers::{Beginning, Entry, Patterns, Place};
 use std::alloc::Global;
 use valuations::Frame;
+use wake_patterns::patterns_of;
 
 // The patterns of the events that can change the instance.
 fn patterns_in(

@@ -1,7 +1,5 @@
 -- Small lists of variables.
-use Rattle.plan_terms.proofs.Vocabulary.{◌≡◌, ℕ, [], ◌∷◌, Contains, ap, arith, ⊎_elim, subst, here}
-use Rattle.plan_terms.proofs.Vocabulary.{later, first_or_later, none_in_nil, Var, VarId, only_variable, variable_x}
-use Rattle.plan_terms.proofs.Vocabulary.{plan_terms_y}
+use Rattle.plan_terms.proofs.Vocabulary.{◌≡◌, ℕ, [], ◌∷◌, Contains, ap, arith, ⊎_elim, subst, here, later, first_or_later, none_in_nil, Var, VarId, only_variable, variable_x, plan_terms_y}
 
 pub apart : variable_x ≡ plan_terms_y → ⊥
 apart e = let n : ◌≡◌ {A = ℕ} 0 1 = ap (λ (z : VarId). z.0) e in omega arith

@@ -1,7 +1,6 @@
 -- The free variables of a guard that are not in scope are just its own.
-use Rattle.plan_terms.proofs.Vocabulary.{◌≡◌, List, ◌++◌, Contains, ⊎_elim, Contains-append, variable_cmp}
-use Rattle.plan_terms.proofs.Vocabulary.{variable_cmp_total, VarId, Formula, IsFree, new_apart, AreNewVariables}
-use Rattle.plan_terms.proofs.Vocabulary.{AreOpen, FreeWithin, ColumnsAreVariables, rising_behind, same_rising}
+use Rattle.plan_terms.proofs.Vocabulary.{◌≡◌, List, ◌++◌, Contains, ⊎_elim, Contains-append, variable_cmp, variable_cmp_total, VarId, Formula, IsFree, new_apart, AreNewVariables, AreOpen, FreeWithin}
+use Rattle.plan_terms.proofs.Vocabulary.{ColumnsAreVariables, rising_behind, same_rising}
 
 own : (test : Formula) (scope xs columns : List VarId) → AreNewVariables scope xs → FreeWithin test (Contains (scope ++ xs))
     → ((x : VarId) → Contains xs x → IsFree x test) → AreOpen test scope columns → columns ≡ xs

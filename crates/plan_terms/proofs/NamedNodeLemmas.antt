@@ -1,13 +1,8 @@
 -- The nodes of a well-formed plan stand in it.
-use Rattle.plan_terms.proofs.Vocabulary.{◌≡◌, ℕ, zero, suc, List, [], ◌∷◌, ◌++◌, Option, None, Some}
-use Rattle.plan_terms.proofs.Vocabulary.{Contains, ⊎_elim, refl, sym, ap, subst, ◌∙◌, arith, AllByRecursion}
-use Rattle.plan_terms.proofs.Vocabulary.{find, slice_get, Contains-append_left, Contains-append_right, none-some, later}
-use Rattle.plan_terms.proofs.Vocabulary.{first_or_later, none_in_nil, AllByRecursion-contains, AllByRecursion-find}
-use Rattle.plan_terms.proofs.Vocabulary.{AllByRecursion-from_contains, Contains-append, VarId, Formula, GuardLooksBack}
-use Rattle.plan_terms.proofs.Vocabulary.{IsSafeNode, IsWellFormed, IsNumberedPlan, has_number, nodes, node_number}
-use Rattle.plan_terms.proofs.Vocabulary.{node_in, nodes_of, Plan, CausePlan, SuppressPlan, Both, Either, TestOr}
-use Rattle.plan_terms.proofs.Vocabulary.{Guarded, EventuallyPlan, AlwaysPlan, UntilPlan, NextPlan, IsNodeByNumber}
-use Rattle.plan_terms.proofs.Vocabulary.{StandsIn}
+use Rattle.plan_terms.proofs.Vocabulary.{◌≡◌, ℕ, zero, suc, List, [], ◌∷◌, ◌++◌, Option, None, Some, Contains, ⊎_elim, refl, sym, ap, subst, ◌∙◌, arith, AllByRecursion, find, slice_get}
+use Rattle.plan_terms.proofs.Vocabulary.{Contains-append_left, Contains-append_right, none-some, later, first_or_later, none_in_nil, AllByRecursion-contains, AllByRecursion-find}
+use Rattle.plan_terms.proofs.Vocabulary.{AllByRecursion-from_contains, Contains-append, VarId, Formula, GuardLooksBack, IsSafeNode, IsWellFormed, IsNumberedPlan, has_number, nodes, node_number}
+use Rattle.plan_terms.proofs.Vocabulary.{node_in, nodes_of, Plan, CausePlan, SuppressPlan, Both, Either, TestOr, Guarded, EventuallyPlan, AlwaysPlan, UntilPlan, NextPlan, IsNodeByNumber, StandsIn}
 use Rattle.plan_terms.proofs.ScopeLaws.{AtEach-nodes, AtEach-weaker}
 use Rattle.plan_terms.proofs.NodeSearch.{placed}
 

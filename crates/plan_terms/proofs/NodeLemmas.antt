@@ -1,12 +1,8 @@
 -- The nodes of a plan.
-use Rattle.plan_terms.proofs.Vocabulary.{[], ◌++◌, Contains, ◌≡◌, Some, refl, ℕ, List, length, get_or, map}
-use Rattle.plan_terms.proofs.Vocabulary.{◌<◌, ap, ◌∙◌, ◌∷◌, subst, ⊎_elim, slice_get-map}
-use Rattle.plan_terms.proofs.Vocabulary.{slice_get_read, Contains-append_left, Contains-append_right, nodes, Plan}
-use Rattle.plan_terms.proofs.Vocabulary.{CausePlan, SuppressPlan, Both, Either, TestOr, Guarded, EventuallyPlan}
-use Rattle.plan_terms.proofs.Vocabulary.{AlwaysPlan, UntilPlan, NextPlan, plan_of, here, first_or_later, none_in_nil}
-use Rattle.plan_terms.proofs.Vocabulary.{later}
-use Rattle.std.proofs.Common.{slice_get}
-use Rattle.std.proofs.Common.{option_map}
+use Rattle.plan_terms.proofs.Vocabulary.{[], ◌++◌, Contains, ◌≡◌, Some, refl, ℕ, List, length, get_or, map, ◌<◌, ap, ◌∙◌, ◌∷◌, subst, ⊎_elim, slice_get-map, slice_get_read, Contains-append_left}
+use Rattle.plan_terms.proofs.Vocabulary.{Contains-append_right, nodes, Plan, CausePlan, SuppressPlan, Both, Either, TestOr, Guarded, EventuallyPlan, AlwaysPlan, UntilPlan, NextPlan, plan_of, here}
+use Rattle.plan_terms.proofs.Vocabulary.{first_or_later, none_in_nil, later}
+use Rattle.std.proofs.Common.{slice_get, option_map}
 use Rattle.plan_terms.specs.declared.plans.Plan.{Plan as Stored}
 
 -- a plan is the first of its nodes

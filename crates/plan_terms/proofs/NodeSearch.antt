@@ -1,7 +1,6 @@
 -- How the first node with a number is found.
-use Rattle.plan_terms.proofs.Vocabulary.{◌≡◌, ℕ, zero, suc, ◌+◌, false, cond, nat_eq, List, [], ◌∷◌}
-use Rattle.plan_terms.proofs.Vocabulary.{◌++◌, Option, Some, None, arith, eq-eqb, ne_eqb, refl, sym, ap, ◌∙◌}
-use Rattle.plan_terms.proofs.Vocabulary.{find, slice_get, option_or, find-append, Plan, has_number, node_number}
+use Rattle.plan_terms.proofs.Vocabulary.{◌≡◌, ℕ, zero, suc, ◌+◌, false, cond, nat_eq, List, [], ◌∷◌, ◌++◌, Option, Some, None, arith, eq-eqb, ne_eqb, refl, sym, ap, ◌∙◌, find, slice_get, option_or}
+use Rattle.plan_terms.proofs.Vocabulary.{find-append, Plan, has_number, node_number}
 
 -- not at the node itself, but in what stands first below it
 pub in_first : (number node : ℕ) (f : Plan) (l r : List Plan) (found : Plan) → nat_eq node number ≡ false → find (has_number number) l ≡ Some found → Some found

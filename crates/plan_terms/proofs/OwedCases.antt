@@ -1,11 +1,8 @@
 -- What two small traces leave open, and what they decide.
-use Rattle.plan_terms.proofs.Vocabulary.{◌≡◌, ℕ, zero, suc, ◌<◌, ◌≤◌, pos, List, [], ◌∷◌}
-use Rattle.plan_terms.proofs.Vocabulary.{◌++◌, Contains, Option, Some, refl, sym, ap, subst, arith, lit<, All-nil}
-use Rattle.plan_terms.proofs.Vocabulary.{All-from_recursion, IsTrace, step_at, HasNoRepeats, no_values, onto_values}
-use Rattle.plan_terms.proofs.Vocabulary.{value_at, value_at-insert, Event, NameId, Step, Value, Num, one_event, at_time}
-use Rattle.plan_terms.proofs.Vocabulary.{event_p, event_q, formula_p_x, name_p, p_1_q_1, two_steps, variable_x}
-use Rattle.plan_terms.proofs.Vocabulary.{IsEventAmong, Sat, Continuation, each_soon, soon_q_x, x_is, LeadsTo}
-use Rattle.plan_terms.proofs.Vocabulary.{LeadsThrough, Obligation, obligation, Plan, CausePlan}
+use Rattle.plan_terms.proofs.Vocabulary.{◌≡◌, ℕ, zero, suc, ◌<◌, ◌≤◌, pos, List, [], ◌∷◌, ◌++◌, Contains, Option, Some, refl, sym, ap, subst, arith, lit<, All-nil, All-from_recursion, IsTrace}
+use Rattle.plan_terms.proofs.Vocabulary.{step_at, HasNoRepeats, no_values, onto_values, value_at, value_at-insert, Event, NameId, Step, Value, Num, one_event, at_time, event_p, event_q, formula_p_x}
+use Rattle.plan_terms.proofs.Vocabulary.{name_p, p_1_q_1, two_steps, variable_x, IsEventAmong, Sat, Continuation, each_soon, soon_q_x, x_is, LeadsTo, LeadsThrough, Obligation, obligation, Plan}
+use Rattle.plan_terms.proofs.Vocabulary.{CausePlan}
 
 -- ---- continuations of two steps
 

@@ -1,15 +1,9 @@
 -- What is lost and owed stays so after more steps.
-use Rattle.plan_terms.proofs.Vocabulary.{◌≡◌, ◌⊎◌, ℕ, ◌+◌, ◌<◌, ◌≤◌, Bool, false, ◌||◌}
-use Rattle.plan_terms.proofs.Vocabulary.{List, [], ◌∷◌, ◌++◌, length, All, IsTrue, inl, inr, ⊎_elim, refl}
-use Rattle.plan_terms.proofs.Vocabulary.{sym, ap, subst, ◌∙◌, append_assoc, arith, length-append, AllByRecursion}
-use Rattle.plan_terms.proofs.Vocabulary.{list_any, false≢true, or_parts as neither, get_or_append_left, All-append}
-use Rattle.plan_terms.proofs.Vocabulary.{All-weaker, step_at, no_step, AllByRecursion-of_append, Valuation, no_values}
-use Rattle.plan_terms.proofs.Vocabulary.{with_values, Step, Formula, Or, Sat, elapsed, PastDecides, is_past, IsIn}
-use Rattle.plan_terms.proofs.Vocabulary.{GuardLooksBack, IsLost, IsAhead, IsNotMet, IsStillLost, LeadsThrough, LeadsTo}
-use Rattle.plan_terms.proofs.Vocabulary.{Obligation, WasLost, obligation, LostStaysLost, LeadsOn, OwedLeadsOn}
-use Rattle.plan_terms.proofs.Vocabulary.{OwedStaysOwed, has_future, is_future, nodes, formula_for, interval_from_to}
-use Rattle.plan_terms.proofs.Vocabulary.{Plan, CausePlan, SuppressPlan, Both, Either, TestOr, Guarded, EventuallyPlan}
-use Rattle.plan_terms.proofs.Vocabulary.{AlwaysPlan, UntilPlan, NextPlan}
+use Rattle.plan_terms.proofs.Vocabulary.{◌≡◌, ◌⊎◌, ℕ, ◌+◌, ◌<◌, ◌≤◌, Bool, false, ◌||◌, List, [], ◌∷◌, ◌++◌, length, All, IsTrue, inl, inr, ⊎_elim, refl, sym, ap, subst, ◌∙◌, append_assoc, arith}
+use Rattle.plan_terms.proofs.Vocabulary.{length-append, AllByRecursion, list_any, false≢true, or_parts as neither, get_or_append_left, All-append, All-weaker, step_at, no_step}
+use Rattle.plan_terms.proofs.Vocabulary.{AllByRecursion-of_append, Valuation, no_values, with_values, Step, Formula, Or, Sat, elapsed, PastDecides, is_past, IsIn, GuardLooksBack, IsLost, IsAhead}
+use Rattle.plan_terms.proofs.Vocabulary.{IsNotMet, IsStillLost, LeadsThrough, LeadsTo, Obligation, WasLost, obligation, LostStaysLost, LeadsOn, OwedLeadsOn, OwedStaysOwed, has_future, is_future}
+use Rattle.plan_terms.proofs.Vocabulary.{nodes, formula_for, interval_from_to, Plan, CausePlan, SuppressPlan, Both, Either, TestOr, Guarded, EventuallyPlan, AlwaysPlan, UntilPlan, NextPlan}
 
 pub lost_stays_lost : LostStaysLost
 lost_stays_lost trace more clock later node v position given not_before lost longer continued =

@@ -1,8 +1,6 @@
 -- What holds at each node of a plan, with the variables in scope there.
-use Rattle.plan_terms.proofs.Vocabulary.{AllByRecursion-append, AllByRecursion-find, AllByRecursion-of_append, VarId}
-use Rattle.plan_terms.proofs.Vocabulary.{AllByRecursion, Formula, OfGuard, has_number, nodes, guards_of_plan, Plan}
-use Rattle.plan_terms.proofs.Vocabulary.{CausePlan, SuppressPlan, Both, Either, TestOr, Guarded, EventuallyPlan}
-use Rattle.plan_terms.proofs.Vocabulary.{AlwaysPlan, UntilPlan, NextPlan, AtEach, scoped_nodes, scoped_at}
+use Rattle.plan_terms.proofs.Vocabulary.{AllByRecursion-append, AllByRecursion-find, AllByRecursion-of_append, VarId, AllByRecursion, Formula, OfGuard, has_number, nodes, guards_of_plan, Plan}
+use Rattle.plan_terms.proofs.Vocabulary.{CausePlan, SuppressPlan, Both, Either, TestOr, Guarded, EventuallyPlan, AlwaysPlan, UntilPlan, NextPlan, AtEach, scoped_nodes, scoped_at}
 use Rattle.std.specs.Prelude.{List, ◌++◌, ◌≡◌, ℕ, Some}
 
 -- ---- what holds at each node of a plan

@@ -1,12 +1,8 @@
 -- What a node inherits from the plan in which it stands.
-use Rattle.plan_terms.proofs.Vocabulary.{◌≡◌, ℕ, Bool, true, false, cond, List, [], ◌∷◌, ◌++◌, map}
-use Rattle.plan_terms.proofs.Vocabulary.{Some, Contains, ⊎_elim, refl, sym, ap, ◌∙◌, append_assoc}
-use Rattle.plan_terms.proofs.Vocabulary.{AllByRecursion, find, option_map, append-nil, map-append}
-use Rattle.plan_terms.proofs.Vocabulary.{AllByRecursion-append, AllByRecursion-contains, AllByRecursion-find}
-use Rattle.plan_terms.proofs.Vocabulary.{AllByRecursion-weaker, Contains-append, variable_cmp, Var, VarId, IsFree}
-use Rattle.plan_terms.proofs.Vocabulary.{IsTermInScope, has_number, nodes, formula_for, Plan, CausePlan, SuppressPlan}
-use Rattle.plan_terms.proofs.Vocabulary.{Both, Either, TestOr, Guarded, EventuallyPlan, AlwaysPlan, UntilPlan, NextPlan}
-use Rattle.plan_terms.proofs.Vocabulary.{IsScopedPlan, scoped_at, scoped_nodes}
+use Rattle.plan_terms.proofs.Vocabulary.{◌≡◌, ℕ, Bool, true, false, cond, List, [], ◌∷◌, ◌++◌, map, Some, Contains, ⊎_elim, refl, sym, ap, ◌∙◌, append_assoc, AllByRecursion, find, option_map}
+use Rattle.plan_terms.proofs.Vocabulary.{append-nil, map-append, AllByRecursion-append, AllByRecursion-contains, AllByRecursion-find, AllByRecursion-weaker, Contains-append, variable_cmp, Var, VarId}
+use Rattle.plan_terms.proofs.Vocabulary.{IsFree, IsTermInScope, has_number, nodes, formula_for, Plan, CausePlan, SuppressPlan, Both, Either, TestOr, Guarded, EventuallyPlan, AlwaysPlan, UntilPlan}
+use Rattle.plan_terms.proofs.Vocabulary.{NextPlan, IsScopedPlan, scoped_at, scoped_nodes}
 use Rattle.std.specs.List.Sorted.{IsStrictlySortedBy}
 
 abbrev Scoped : Type 0

@@ -1,9 +1,6 @@
 -- Where a formula holds that has triggers, an event of one of them is there.
-use Rattle.plan_terms.proofs.Vocabulary.{◌≡◌, ℕ, List, [], ◌∷◌, ◌++◌, Option, None, Some, Contains}
-use Rattle.plan_terms.proofs.Vocabulary.{refl, subst, option_or, Contains-append_left, Contains-append_right}
-use Rattle.plan_terms.proofs.Vocabulary.{Contains-push, step_at, Valuation, values_of_terms, with_values, Event, NameId}
-use Rattle.plan_terms.proofs.Vocabulary.{Step, Value, Formula, Atom, And, Or, Exists, Sat, Classically, IsEventAmong}
-use Rattle.plan_terms.proofs.Vocabulary.{of_each, triggers}
+use Rattle.plan_terms.proofs.Vocabulary.{◌≡◌, ℕ, List, [], ◌∷◌, ◌++◌, Option, None, Some, Contains, refl, subst, option_or, Contains-append_left, Contains-append_right, Contains-push, step_at}
+use Rattle.plan_terms.proofs.Vocabulary.{Valuation, values_of_terms, with_values, Event, NameId, Step, Value, Formula, Atom, And, Or, Exists, Sat, Classically, IsEventAmong, of_each, triggers}
 
 abbrev Met : List Event → List NameId → Type 0
 Met events names = Classically ((event : Event) × Contains events event × Contains names event.name)

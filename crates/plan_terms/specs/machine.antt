@@ -7,3 +7,4 @@ pub mod Laws
 pub mod NameBounds
 pub mod StoredPlans
 pub mod WellFormed
+pub mod WakingNames

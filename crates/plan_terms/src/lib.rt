@@ -8,6 +8,7 @@ pub mod laws;
 pub mod plan_shape;
 pub mod plans;
 pub mod triggers;
+pub mod waking;
 pub mod worked_cases;
 
 pub use formulas::formula_of;

@@ -13,6 +13,7 @@ ghost use Rattle.plan_terms.specs.machine.WellFormed.{GuardsAreListed, GuardsAre
 ghost use Rattle.plan_terms.specs.machine.WellFormed.{AreWellFormed, IsNumberedPlan, IsScopedPlan};
 ghost use Rattle.plan_terms.specs.machine.IntervalEnds.{AllEndLater, EndsLater};
 ghost use Rattle.plan_terms.specs.machine.NameBounds.{LooksBelow};
+ghost use Rattle.plan_terms.specs.machine.WakingNames.{waking_names};
 ghost use Rattle.enf_formula.specs.machine.Agreement.{names_in_formula};
 ghost use Rattle.plan_terms.specs.machine.NamedNodes.{scope_at};
 ghost use Rattle.enf_data.specs.declared.terms.Term.TheVariants.{Var};
@@ -113,6 +114,25 @@ pub fn names_of_guards()
     ensures looked_for { names_in_formula (tree.And 0 formula_q (tree.Not 0 formula_p)) ≡ name_q ∷ name_p ∷ [] }
     ensures below { LooksBelow 1 (formula_p_x, []) }
     ensures not_below { LooksBelow 0 (formula_p_x, []) → ⊥ }
+{}
+
+/// The names that wake a plan.
+pub fn names_that_wake()
+    ensures suppressed { waking_names (plan.SuppressPlan 0 0 name_q []) ≡ Some (name_q ∷ []) }
+    ensures caused { waking_names (cause_p 0) ≡ None }
+    ensures both_sides { waking_names
+        (plan.Both 0 (plan.SuppressPlan 1 0 name_p []) (plan.SuppressPlan 2 0 name_q []))
+        ≡ Some (name_p ∷ name_q ∷ []) }
+    ensures one_of_both { waking_names (plan.Both 0 (plan.SuppressPlan 1 0 name_p []) (plan_cause_q 2)) ≡ None }
+    ensures either_side { waking_names
+        (plan.Either 0 (plan.SuppressPlan 1 0 name_q []) (plan.SuppressPlan 2 0 name_p []))
+        ≡ Some (name_q ∷ name_p ∷ []) }
+    ensures tested { waking_names (plan.TestOr 0 0 formula_p (plan.SuppressPlan 1 0 name_q [])) ≡ Some (name_q ∷ []) }
+    ensures triggered { waking_names each_soon ≡ Some (name_p ∷ []) }
+    ensures bare { waking_names (plan.Guarded 0 [] 0 (tree.Not 0 formula_p) (plan.SuppressPlan 1 0 name_q []))
+        ≡ Some (name_q ∷ []) }
+    ensures bare_cause { waking_names (plan.Guarded 0 [] 0 (tree.Not 0 formula_p) (plan_cause_q 1)) ≡ None }
+    ensures ahead { waking_names soon_q_x ≡ None }
 {}
 
 /// Intervals that end in time, for each operator on the future.

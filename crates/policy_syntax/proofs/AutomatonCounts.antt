@@ -1,9 +1,6 @@
 -- What the automaton counts is what stands after a lexeme.
-use Rattle.policy_syntax.proofs.Vocabulary.{◌≡◌, ℕ, Bool, true, false, true≢false, ◌&&◌}
-use Rattle.policy_syntax.proofs.Vocabulary.{if◌then◌else◌, List, [], ◌∷◌, ◌++◌, map, refl, sym, ap}
-use Rattle.policy_syntax.proofs.Vocabulary.{subst, ◌∙◌, reverse-append, and_parts, ItemKind, StackItem, Stack}
-use Rattle.policy_syntax.proofs.Vocabulary.{skips, settle, PolicyLexeme, PlacedLexeme, Symbol, NameLexeme, DigitsLexeme}
-use Rattle.policy_syntax.proofs.Vocabulary.{kinds_behind, ends_in_name, wants_end}
+use Rattle.policy_syntax.proofs.Vocabulary.{◌≡◌, ℕ, Bool, true, false, true≢false, ◌&&◌, if◌then◌else◌, List, [], ◌∷◌, ◌++◌, map, refl, sym, ap, subst, ◌∙◌, reverse-append, and_parts, ItemKind}
+use Rattle.policy_syntax.proofs.Vocabulary.{StackItem, Stack, skips, settle, PolicyLexeme, PlacedLexeme, Symbol, NameLexeme, DigitsLexeme, kinds_behind, ends_in_name, wants_end}
 use Rattle.policy_syntax.specs.machine.Automaton as automaton
 use Rattle.policy_syntax.specs.declared.lexemes.Symbol.TheVariants as symbols
 

@@ -1,13 +1,8 @@
 -- How the automaton goes on, step by step.
-use Rattle.policy_syntax.proofs.Vocabulary.{◌≡◌, ℕ, ◌≤◌, nat_lt, Bool, true, false, ◌||◌}
-use Rattle.policy_syntax.proofs.Vocabulary.{if◌then◌else◌, List, [], ◌∷◌, ◌++◌, Option, Some, None}
-use Rattle.policy_syntax.proofs.Vocabulary.{Result, Ok, Err, refl, sym, ap, subst, ◌∙◌, arith, IfErr, IsErrAnd}
-use Rattle.policy_syntax.proofs.Vocabulary.{err_from_is_err_and, nat_tests, ItemKind, Stack, AutomatonState, accepts}
-use Rattle.policy_syntax.proofs.Vocabulary.{is_optional, is_over, is_wrong, stack_item, limit_place, names_after}
-use Rattle.policy_syntax.proofs.Vocabulary.{nodes_after, offer, settle, skips, automaton_step, then_judged, Bars}
-use Rattle.policy_syntax.proofs.Vocabulary.{ReadsPart, judge_from, next_lexeme_of, next_place_of, PolicyLexeme}
-use Rattle.policy_syntax.proofs.Vocabulary.{PlacedLexeme, next_lexeme, is_end_lexeme, next_place, IsLexemeTaken}
-use Rattle.policy_syntax.proofs.Vocabulary.{MOST_LEVEL, MOST_VARIABLES, Parts, SyntaxRefusal, Syntax, Limit, NoMemory}
+use Rattle.policy_syntax.proofs.Vocabulary.{◌≡◌, ℕ, ◌≤◌, nat_lt, Bool, true, false, ◌||◌, if◌then◌else◌, List, [], ◌∷◌, ◌++◌, Option, Some, None, Result, Ok, Err, refl, sym, ap, subst, ◌∙◌, arith}
+use Rattle.policy_syntax.proofs.Vocabulary.{IfErr, IsErrAnd, err_from_is_err_and, nat_tests, ItemKind, Stack, AutomatonState, accepts, is_optional, is_over, is_wrong, stack_item, limit_place}
+use Rattle.policy_syntax.proofs.Vocabulary.{names_after, nodes_after, offer, settle, skips, automaton_step, then_judged, Bars, ReadsPart, judge_from, next_lexeme_of, next_place_of, PolicyLexeme}
+use Rattle.policy_syntax.proofs.Vocabulary.{PlacedLexeme, next_lexeme, is_end_lexeme, next_place, IsLexemeTaken, MOST_LEVEL, MOST_VARIABLES, Parts, SyntaxRefusal, Syntax, Limit, NoMemory}
 use Rattle.policy_syntax.specs.machine.Automaton.{judge}
 use Rattle.policy_syntax.specs.machine.PartOutcomes.{Continues, RefusesFrom}
 use Rattle.policy_syntax.proofs.JudgedLexemes.{judge_takes, judge_limits, judge_refuses, judge_sticks, judge_ends}

@@ -1,12 +1,8 @@
 -- What is asked of trees does not depend on their places.
-use Rattle.policy_syntax.proofs.Vocabulary.{◌≡◌, ℕ, ◌+◌, ◌≤◌, List, [], ◌∷◌, length, map, refl}
-use Rattle.policy_syntax.proofs.Vocabulary.{sym, ap, subst, ◌∙◌, AllByRecursion, length-map, KeepsLimits, IsRule}
-use Rattle.policy_syntax.proofs.Vocabulary.{IsShortName, IsShortTerm, tree_size, SyntaxTree, PolicyRule, TrueTree}
-use Rattle.policy_syntax.proofs.Vocabulary.{FalseTree, AtomTree, EqualTree, LessTree, AtMostTree, NotTree, AndTree}
-use Rattle.policy_syntax.proofs.Vocabulary.{OrTree, ImpliesTree, ExistsTree, ForallTree, PrevTree, NextTree, OnceTree}
-use Rattle.policy_syntax.proofs.Vocabulary.{HistoricallyTree, SinceTree, EventuallyTree, AlwaysTree, UntilTree}
-use Rattle.policy_syntax.proofs.Vocabulary.{bare_syntax_tree, bare_rule, bare_term, bare_binding, MOST_NODES}
-use Rattle.policy_syntax.proofs.Vocabulary.{MOST_VARIABLES, Binding, SyntaxTerm}
+use Rattle.policy_syntax.proofs.Vocabulary.{◌≡◌, ℕ, ◌+◌, ◌≤◌, List, [], ◌∷◌, length, map, refl, sym, ap, subst, ◌∙◌, AllByRecursion, length-map, KeepsLimits, IsRule, IsShortName, IsShortTerm}
+use Rattle.policy_syntax.proofs.Vocabulary.{tree_size, SyntaxTree, PolicyRule, TrueTree, FalseTree, AtomTree, EqualTree, LessTree, AtMostTree, NotTree, AndTree, OrTree, ImpliesTree, ExistsTree}
+use Rattle.policy_syntax.proofs.Vocabulary.{ForallTree, PrevTree, NextTree, OnceTree, HistoricallyTree, SinceTree, EventuallyTree, AlwaysTree, UntilTree, bare_syntax_tree, bare_rule, bare_term}
+use Rattle.policy_syntax.proofs.Vocabulary.{bare_binding, MOST_NODES, MOST_VARIABLES, Binding, SyntaxTerm}
 use Rattle.policy_syntax.specs.declared.trees.SyntaxTerm.TheVariants.{Variable, Constant}
 
 bare_size : (f : SyntaxTree) → tree_size (bare_syntax_tree f) ≡ tree_size f

@@ -1,15 +1,9 @@
 -- One lexeme more, and what is counted then.
-use Rattle.policy_syntax.proofs.Vocabulary.{◌≡◌, ℕ, ◌+◌, Bool, true, false, true≢false}
-use Rattle.policy_syntax.proofs.Vocabulary.{if◌then◌else◌, List, [], ◌∷◌, ◌++◌, length, reverse, Option}
-use Rattle.policy_syntax.proofs.Vocabulary.{None, Some, refl, sym, ap, ◌∙◌, arith, length-append, reverse-append}
-use Rattle.policy_syntax.proofs.Vocabulary.{ItemKind, Stack, offer, nodes_after, names_after, PolicyLexeme}
-use Rattle.policy_syntax.proofs.Vocabulary.{PlacedLexeme, Symbol, Truth, Prefix, Infix, Quantifier, Sign, NameLexeme}
-use Rattle.policy_syntax.proofs.Vocabulary.{DigitsLexeme, NegativeLexeme, TextLexeme, ends_in_name, is_operator}
-use Rattle.policy_syntax.proofs.Vocabulary.{nodes_behind, rule_names, rules_behind, wants_end, Rule, Not, And, Or}
-use Rattle.policy_syntax.proofs.Vocabulary.{Arrow, OpenParen, CloseParen, OpenBracket, CloseBracket, Comma, Semicolon}
-use Rattle.policy_syntax.proofs.Vocabulary.{Colon, Dot, Star}
-use Rattle.policy_syntax.proofs.AutomatonCounts.{Suits, StackSuits, are_inner, ends_in_low, ends_in_rule}
-use Rattle.policy_syntax.proofs.AutomatonCounts.{inner_stack_suits}
+use Rattle.policy_syntax.proofs.Vocabulary.{◌≡◌, ℕ, ◌+◌, Bool, true, false, true≢false, if◌then◌else◌, List, [], ◌∷◌, ◌++◌, length, reverse, Option, None, Some, refl, sym, ap, ◌∙◌, arith}
+use Rattle.policy_syntax.proofs.Vocabulary.{length-append, reverse-append, ItemKind, Stack, offer, nodes_after, names_after, PolicyLexeme, PlacedLexeme, Symbol, Truth, Prefix, Infix, Quantifier, Sign}
+use Rattle.policy_syntax.proofs.Vocabulary.{NameLexeme, DigitsLexeme, NegativeLexeme, TextLexeme, ends_in_name, is_operator, nodes_behind, rule_names, rules_behind, wants_end, Rule, Not, And, Or}
+use Rattle.policy_syntax.proofs.Vocabulary.{Arrow, OpenParen, CloseParen, OpenBracket, CloseBracket, Comma, Semicolon, Colon, Dot, Star}
+use Rattle.policy_syntax.proofs.AutomatonCounts.{Suits, StackSuits, are_inner, ends_in_low, ends_in_rule, inner_stack_suits}
 use Rattle.policy_syntax.specs.machine.Automaton as automaton
 
 -- ---- the items that are left suit the lexeme

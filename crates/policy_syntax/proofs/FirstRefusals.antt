@@ -1,10 +1,7 @@
 -- What the automaton refuses first is the first refusal.
-use Rattle.policy_syntax.proofs.Vocabulary.{◌≡◌, inl, inr, ℕ, Bool, true, false, true≢false}
-use Rattle.policy_syntax.proofs.Vocabulary.{if◌then◌else◌, List, [], ◌∷◌, ◌++◌, Option, None, Some}
-use Rattle.policy_syntax.proofs.Vocabulary.{Result, Ok, Err, refl, sym, ap, subst, ◌∙◌, append_assoc, append-nil}
-use Rattle.policy_syntax.proofs.Vocabulary.{IsFirstReaderRefusal, Stack, AutomatonState, settle, automaton_step}
-use Rattle.policy_syntax.proofs.Vocabulary.{accepts, then_judged, PlacedLexeme, IsPolicySentence, RefusesLexeme}
-use Rattle.policy_syntax.proofs.Vocabulary.{SyntaxRefusal, Syntax}
+use Rattle.policy_syntax.proofs.Vocabulary.{◌≡◌, inl, inr, ℕ, Bool, true, false, true≢false, if◌then◌else◌, List, [], ◌∷◌, ◌++◌, Option, None, Some, Result, Ok, Err, refl, sym, ap, subst, ◌∙◌}
+use Rattle.policy_syntax.proofs.Vocabulary.{append_assoc, append-nil, IsFirstReaderRefusal, Stack, AutomatonState, settle, automaton_step, accepts, then_judged, PlacedLexeme, IsPolicySentence}
+use Rattle.policy_syntax.proofs.Vocabulary.{RefusesLexeme, SyntaxRefusal, Syntax}
 use Rattle.policy_syntax.specs.machine.Automaton.{judge}
 use Rattle.policy_syntax.proofs.Fronts.{accepted, sentence}
 use Rattle.policy_syntax.proofs.LexemeRefusals.{IsOn, on_next, refused_stands, stands_refused, taken_begins}

@@ -1,16 +1,10 @@
 -- What each lexeme of a formula is to the automaton.
-use Rattle.policy_syntax.proofs.Vocabulary.{◌≡◌, ◌≢◌, ⊎_elim, ℕ, ◌+◌, ◌≤◌, Bool, false, List}
-use Rattle.policy_syntax.proofs.Vocabulary.{[], ◌∷◌, Some, None, refl, sym, Stack, Operand, InfixTail, AndTail}
-use Rattle.policy_syntax.proofs.Vocabulary.{OrTail, ArrowTail, OpenInterval, BoundVariable, BehindVariable}
-use Rattle.policy_syntax.proofs.Vocabulary.{ParenthesisEnd, BehindConstant, and_on, formula_on, stack_item, offer}
-use Rattle.policy_syntax.proofs.Vocabulary.{or_on, settle, automaton_step, Bars, BarsSymbol, term_refusal}
-use Rattle.policy_syntax.proofs.Vocabulary.{next_lexeme_of, next_place_of, PolicyLexeme, Symbol, Truth, Prefix, Infix}
-use Rattle.policy_syntax.proofs.Vocabulary.{Quantifier, NameLexeme, DigitsLexeme, NegativeLexeme, TextLexeme, lexeme_of}
-use Rattle.policy_syntax.proofs.Vocabulary.{IsLexemeTaken, begins_inner, MOST_VARIABLES, Not, And, Or, Arrow, OpenParen}
-use Rattle.policy_syntax.proofs.Vocabulary.{CloseParen, Comma, Dot, Parts, SyntaxRefusal}
+use Rattle.policy_syntax.proofs.Vocabulary.{◌≡◌, ◌≢◌, ⊎_elim, ℕ, ◌+◌, ◌≤◌, Bool, false, List, [], ◌∷◌, Some, None, refl, sym, Stack, Operand, InfixTail, AndTail, OrTail, ArrowTail, OpenInterval}
+use Rattle.policy_syntax.proofs.Vocabulary.{BoundVariable, BehindVariable, ParenthesisEnd, BehindConstant, and_on, formula_on, stack_item, offer, or_on, settle, automaton_step, Bars, BarsSymbol}
+use Rattle.policy_syntax.proofs.Vocabulary.{term_refusal, next_lexeme_of, next_place_of, PolicyLexeme, Symbol, Truth, Prefix, Infix, Quantifier, NameLexeme, DigitsLexeme, NegativeLexeme, TextLexeme}
+use Rattle.policy_syntax.proofs.Vocabulary.{lexeme_of, IsLexemeTaken, begins_inner, MOST_VARIABLES, Not, And, Or, Arrow, OpenParen, CloseParen, Comma, Dot, Parts, SyntaxRefusal}
 use Rattle.policy_syntax.specs.machine.PartOutcomes.{Continues, RefusesFrom}
-use Rattle.policy_syntax.proofs.PartMoves.{IsMark, IsNoName, IsOnly, IsOperator, refuses_if, as_refused, one_is}
-use Rattle.policy_syntax.proofs.PartMoves.{past_stops, level_past}
+use Rattle.policy_syntax.proofs.PartMoves.{IsMark, IsNoName, IsOnly, IsOperator, refuses_if, as_refused, one_is, past_stops, level_past}
 use Rattle.policy_syntax.proofs.AutomatonSteps.{IsMove, goes_as, moves, sticks}
 use Rattle.policy_syntax.specs.declared.lexemes.Lexeme as read
 use Rattle.policy_syntax.specs.declared.lexemes.Lexeme.TheVariants as variants

@@ -1,15 +1,9 @@
 -- Formulas, put together from their parts.
-use Rattle.policy_syntax.proofs.Vocabulary.{◌≡◌, ◌≢◌, ℕ, ◌+◌, ◌≤◌, length, Bool, true, false}
-use Rattle.policy_syntax.proofs.Vocabulary.{IsTrue, ◌↔◌, true≢false, List, ◌∷◌, refl, sym, ap, subst}
-use Rattle.policy_syntax.proofs.Vocabulary.{◌∙◌, AllByRecursion, KeepsLimits, IsShortName, tree_size, SyntaxTree}
-use Rattle.policy_syntax.proofs.Vocabulary.{Interval, OneSide, Implication, OneCase, Disjunction, OnePart, Conjunction}
-use Rattle.policy_syntax.proofs.Vocabulary.{OneOperand, Between, Negation, Before, Quantified, Primary, Parenthesis}
-use Rattle.policy_syntax.proofs.Vocabulary.{Constant, infix_tree, prefix_tree, quantifier_tree, truth_tree, bound}
-use Rattle.policy_syntax.proofs.Vocabulary.{spell, scope_behind, Ahead, lexeme_of, PolicyLexeme, PlacedLexeme, Symbol}
-use Rattle.policy_syntax.proofs.Vocabulary.{Truth, Prefix, Infix, Quantifier, next_lexeme, IsLexemeTaken, VariablesRead}
-use Rattle.policy_syntax.proofs.Vocabulary.{IntervalRead, PrimaryRead, UnaryRead, InfixRead, AndRead, OrRead}
-use Rattle.policy_syntax.proofs.Vocabulary.{FormulaRead, Not, And, Or, Arrow, OpenParen, CloseParen, Dot}
-use Rattle.policy_syntax.proofs.Vocabulary.{MOST_VARIABLES, Depth, Binding}
+use Rattle.policy_syntax.proofs.Vocabulary.{◌≡◌, ◌≢◌, ℕ, ◌+◌, ◌≤◌, length, Bool, true, false, IsTrue, ◌↔◌, true≢false, List, ◌∷◌, refl, sym, ap, subst, ◌∙◌, AllByRecursion, KeepsLimits, IsShortName}
+use Rattle.policy_syntax.proofs.Vocabulary.{tree_size, SyntaxTree, Interval, OneSide, Implication, OneCase, Disjunction, OnePart, Conjunction, OneOperand, Between, Negation, Before, Quantified}
+use Rattle.policy_syntax.proofs.Vocabulary.{Primary, Parenthesis, Constant, infix_tree, prefix_tree, quantifier_tree, truth_tree, bound, spell, scope_behind, Ahead, lexeme_of, PolicyLexeme}
+use Rattle.policy_syntax.proofs.Vocabulary.{PlacedLexeme, Symbol, Truth, Prefix, Infix, Quantifier, next_lexeme, IsLexemeTaken, VariablesRead, IntervalRead, PrimaryRead, UnaryRead, InfixRead, AndRead}
+use Rattle.policy_syntax.proofs.Vocabulary.{OrRead, FormulaRead, Not, And, Or, Arrow, OpenParen, CloseParen, Dot, MOST_VARIABLES, Depth, Binding}
 use Rattle.policy_syntax.proofs.LexemeLimits.{bound_is}
 use Rattle.policy_syntax.specs.declared.lexemes.Infix.TheVariants as infix_words
 use Rattle.policy_syntax.specs.declared.lexemes.Prefix.TheVariants as prefix_words

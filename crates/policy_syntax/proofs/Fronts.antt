@@ -1,9 +1,6 @@
 -- The stack after the front of a text says how it can go on.
-use Rattle.policy_syntax.proofs.Vocabulary.{◌≡◌, ℕ, true, List, [], ◌∷◌, ◌++◌, Some, refl, sym, ap}
-use Rattle.policy_syntax.proofs.Vocabulary.{subst, ◌∙◌, append_assoc, append-nil, StackItem, Stack, offer, settle}
-use Rattle.policy_syntax.proofs.Vocabulary.{start_stack, accepts, PolicyFits, policy_fold, rule_fold, RulePhrase}
-use Rattle.policy_syntax.proofs.Vocabulary.{PolicyLexeme, PlacedLexeme, CanBeginPolicy, Deep, IsDeep, IsPolicySentence}
-use Rattle.policy_syntax.proofs.Vocabulary.{deepen}
+use Rattle.policy_syntax.proofs.Vocabulary.{◌≡◌, ℕ, true, List, [], ◌∷◌, ◌++◌, Some, refl, sym, ap, subst, ◌∙◌, append_assoc, append-nil, StackItem, Stack, offer, settle, start_stack, accepts}
+use Rattle.policy_syntax.proofs.Vocabulary.{PolicyFits, policy_fold, rule_fold, RulePhrase, PolicyLexeme, PlacedLexeme, CanBeginPolicy, Deep, IsDeep, IsPolicySentence, deepen}
 use Rattle.policy_syntax.proofs.StackMeanings.{Denotes, rules_fold}
 use Rattle.policy_syntax.proofs.StackBeginnings.{Onwards, onwards}
 use Rattle.policy_syntax.proofs.StackPredecessors.{back_step}

@@ -1,10 +1,7 @@
 -- What the automaton does at a lexeme and at the end, case by case.
-use Rattle.policy_syntax.proofs.Vocabulary.{◌≡◌, ℕ, Bool, true, false, ◌&&◌, if◌then◌else◌, List, []}
-use Rattle.policy_syntax.proofs.Vocabulary.{◌∷◌, ◌++◌, Option, None, Some, Ok, Err, ap, ◌∙◌}
-use Rattle.policy_syntax.proofs.Vocabulary.{PolicyLexeme, PlacedLexeme, ItemKind, Stack, AutomatonState, stack_item}
-use Rattle.policy_syntax.proofs.Vocabulary.{automaton_state, offer, offered, skips, settle, automaton_step, is_optional}
-use Rattle.policy_syntax.proofs.Vocabulary.{accepts, is_wrong, is_over, limit_place, nodes_after, names_after}
-use Rattle.policy_syntax.proofs.Vocabulary.{then_judged, Syntax, Limit}
+use Rattle.policy_syntax.proofs.Vocabulary.{◌≡◌, ℕ, Bool, true, false, ◌&&◌, if◌then◌else◌, List, [], ◌∷◌, ◌++◌, Option, None, Some, Ok, Err, ap, ◌∙◌, PolicyLexeme, PlacedLexeme, ItemKind, Stack}
+use Rattle.policy_syntax.proofs.Vocabulary.{AutomatonState, stack_item, automaton_state, offer, offered, skips, settle, automaton_step, is_optional, accepts, is_wrong, is_over, limit_place}
+use Rattle.policy_syntax.proofs.Vocabulary.{nodes_after, names_after, then_judged, Syntax, Limit}
 use Rattle.policy_syntax.specs.machine.Automaton.{judge}
 
 -- a stack that need not be settled

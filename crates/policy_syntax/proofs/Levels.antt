@@ -1,8 +1,6 @@
 -- The levels of the lexemes of phrases, and how many variables are in scope at them.
-use Rattle.policy_syntax.proofs.Vocabulary.{◌≡◌, ℕ, ◌≤◌, Bool, true, false, nat_le, ◌&&◌, List, []}
-use Rattle.policy_syntax.proofs.Vocabulary.{◌∷◌, map, refl, sym, ap, ◌∙◌, arith, nat_tests, RulePhrase}
-use Rattle.policy_syntax.proofs.Vocabulary.{LexemeStep, bound, policy_fold, Deep, deepen, AreLow, Leveled, level_of}
-use Rattle.policy_syntax.proofs.Vocabulary.{levels_of, MOST_LEVEL, MOST_VARIABLES}
+use Rattle.policy_syntax.proofs.Vocabulary.{◌≡◌, ℕ, ◌≤◌, Bool, true, false, nat_le, ◌&&◌, List, [], ◌∷◌, map, refl, sym, ap, ◌∙◌, arith, nat_tests, RulePhrase, LexemeStep, bound, policy_fold, Deep}
+use Rattle.policy_syntax.proofs.Vocabulary.{deepen, AreLow, Leveled, level_of, levels_of, MOST_LEVEL, MOST_VARIABLES}
 use Rattle.policy_syntax.proofs.SpellingMaps.{policy_map}
 
 -- each lexeme with its level

@@ -1,6 +1,5 @@
 -- A lexeme within the limits adds nothing to what is asked of those after it.
-use Rattle.policy_syntax.proofs.Vocabulary.{◌≡◌, ℕ, ◌≤◌, Bool, true, nat_le, ◌&&◌, arith, nat_tests}
-use Rattle.policy_syntax.proofs.Vocabulary.{bound, PolicyLexeme, MOST_LEVEL, MOST_VARIABLES}
+use Rattle.policy_syntax.proofs.Vocabulary.{◌≡◌, ℕ, ◌≤◌, Bool, true, nat_le, ◌&&◌, arith, nat_tests, bound, PolicyLexeme, MOST_LEVEL, MOST_VARIABLES}
 
 both : (a b c : Bool) → a ≡ true → b ≡ true → (a && b && c) ≡ c
 both a b c e f = (λ j. e j && f j && c)

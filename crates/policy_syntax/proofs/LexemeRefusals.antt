@@ -1,19 +1,12 @@
 -- At a lexeme the automaton refuses what the definition refuses there.
-use Rattle.policy_syntax.proofs.Vocabulary.{◌≡◌, ◌⊎◌, inl, inr, ℕ, ◌+◌, Bool, true, false, IsTrue}
-use Rattle.policy_syntax.proofs.Vocabulary.{true≢false, ◌||◌, if◌then◌else◌, List, [], ◌∷◌, ◌++◌}
-use Rattle.policy_syntax.proofs.Vocabulary.{length, reverse, Contains, Option, None, Some, Result, Ok, Err, refl, sym}
-use Rattle.policy_syntax.proofs.Vocabulary.{ap, subst, ◌∙◌, list_any, bytes_eq, reverse-append, list_any-append}
-use Rattle.policy_syntax.proofs.Vocabulary.{bytes_eq-Decides, list_any-Decides, ItemKind, StackItem, Stack}
-use Rattle.policy_syntax.proofs.Vocabulary.{AutomatonState, automaton_state, offer, offered, settle, automaton_step}
-use Rattle.policy_syntax.proofs.Vocabulary.{is_over, is_wrong, limit_place, nodes_after, names_after, start_stack}
-use Rattle.policy_syntax.proofs.Vocabulary.{PolicyLexeme, PlacedLexeme, Symbol, NameLexeme, DigitsLexeme, kinds_behind}
-use Rattle.policy_syntax.proofs.Vocabulary.{is_below_first, nodes_behind, rule_names, rules_behind, wants_end}
-use Rattle.policy_syntax.proofs.Vocabulary.{IsSyntaxFault, IsUsed, PassesLimit, RefusesLexeme, Rule, Comma, OpenBracket}
-use Rattle.policy_syntax.proofs.Vocabulary.{Star, SyntaxRefusal, Syntax, Limit, NoMemory}
+use Rattle.policy_syntax.proofs.Vocabulary.{◌≡◌, ◌⊎◌, inl, inr, ℕ, ◌+◌, Bool, true, false, IsTrue, true≢false, ◌||◌, if◌then◌else◌, List, [], ◌∷◌, ◌++◌, length, reverse, Contains, Option, None, Some}
+use Rattle.policy_syntax.proofs.Vocabulary.{Result, Ok, Err, refl, sym, ap, subst, ◌∙◌, list_any, bytes_eq, reverse-append, list_any-append, bytes_eq-Decides, list_any-Decides, ItemKind, StackItem}
+use Rattle.policy_syntax.proofs.Vocabulary.{Stack, AutomatonState, automaton_state, offer, offered, settle, automaton_step, is_over, is_wrong, limit_place, nodes_after, names_after, start_stack}
+use Rattle.policy_syntax.proofs.Vocabulary.{PolicyLexeme, PlacedLexeme, Symbol, NameLexeme, DigitsLexeme, kinds_behind, is_below_first, nodes_behind, rule_names, rules_behind, wants_end}
+use Rattle.policy_syntax.proofs.Vocabulary.{IsSyntaxFault, IsUsed, PassesLimit, RefusesLexeme, Rule, Comma, OpenBracket, Star, SyntaxRefusal, Syntax, Limit, NoMemory}
 use Rattle.policy_syntax.proofs.AutomatonCounts.{Suits, StackSuits, behind_push, ends_in_rule, settled_suits}
 use Rattle.policy_syntax.proofs.CountedLexemes.{LeftSuits, left_suits, nodes_next, names_next, rules_next}
-use Rattle.policy_syntax.proofs.Fronts.{Begins, Reached, begins, can_begin, deep_is, is_deep, reached_next}
-use Rattle.policy_syntax.proofs.Fronts.{reached_start}
+use Rattle.policy_syntax.proofs.Fronts.{Begins, Reached, begins, can_begin, deep_is, is_deep, reached_next, reached_start}
 use Rattle.policy_syntax.proofs.PassedLimits.{IsCounted, IsOver, over_passes, passes_over}
 use Rattle.policy_syntax.specs.machine.Automaton as automaton
 use Rattle.policy_syntax.specs.meaning.Refusals as refusals

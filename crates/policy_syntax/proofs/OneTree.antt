@@ -1,20 +1,11 @@
 -- Lexemes are those of at most one phrase, and what is left after it is the same.
-use Rattle.policy_syntax.proofs.Vocabulary.{◌≡◌, ◌≢◌, ℕ, ◌+◌, Bool, List, [], ◌∷◌, Option, None}
-use Rattle.policy_syntax.proofs.Vocabulary.{Some, refl, sym, ap, ◌∙◌, arith, TermPhrase, TermsPhrase}
-use Rattle.policy_syntax.proofs.Vocabulary.{ArgumentsPhrase, VariablesPhrase, IntervalPhrase, FormulaPhrase, OrPhrase}
-use Rattle.policy_syntax.proofs.Vocabulary.{AndPhrase, InfixPhrase, UnaryPhrase, PrimaryPhrase, RulePhrase, Variable}
-use Rattle.policy_syntax.proofs.Vocabulary.{Plain, Minus, Quoted, LastTerm, NextTerm, LastVariable, NextVariable}
-use Rattle.policy_syntax.proofs.Vocabulary.{OneSide, Implication, OneCase, Disjunction, OnePart, Conjunction}
-use Rattle.policy_syntax.proofs.Vocabulary.{OneOperand, Between, Negation, Before, Quantified, Primary, Parenthesis}
-use Rattle.policy_syntax.proofs.Vocabulary.{Constant, Event, Comparison, scope_behind, spell, end_lexeme, term_lexeme}
-use Rattle.policy_syntax.proofs.Vocabulary.{term_place, terms_fold, some_terms_fold, arguments_fold, variables_fold}
-use Rattle.policy_syntax.proofs.Vocabulary.{interval_fold, formula_fold, or_fold, and_fold, infix_fold, unary_fold}
-use Rattle.policy_syntax.proofs.Vocabulary.{primary_fold, rule_fold, policy_fold, FormulaFits, OrFits, AndFits}
-use Rattle.policy_syntax.proofs.Vocabulary.{InfixFits, UnaryFits, PrimaryFits, RuleFits, PolicyFits, PolicyLexeme}
-use Rattle.policy_syntax.proofs.Vocabulary.{PlacedLexeme, Symbol, Truth, Prefix, Infix, Quantifier, Sign, NameLexeme}
-use Rattle.policy_syntax.proofs.Vocabulary.{DigitsLexeme, NegativeLexeme, TextLexeme, next_lexeme, next_place}
-use Rattle.policy_syntax.proofs.Vocabulary.{behind_next, Not, And, Or, Arrow, CloseParen, Comma, Dot, Semicolon}
-use Rattle.policy_syntax.proofs.Vocabulary.{Binding}
+use Rattle.policy_syntax.proofs.Vocabulary.{◌≡◌, ◌≢◌, ℕ, ◌+◌, Bool, List, [], ◌∷◌, Option, None, Some, refl, sym, ap, ◌∙◌, arith, TermPhrase, TermsPhrase, ArgumentsPhrase, VariablesPhrase}
+use Rattle.policy_syntax.proofs.Vocabulary.{IntervalPhrase, FormulaPhrase, OrPhrase, AndPhrase, InfixPhrase, UnaryPhrase, PrimaryPhrase, RulePhrase, Variable, Plain, Minus, Quoted, LastTerm, NextTerm}
+use Rattle.policy_syntax.proofs.Vocabulary.{LastVariable, NextVariable, OneSide, Implication, OneCase, Disjunction, OnePart, Conjunction, OneOperand, Between, Negation, Before, Quantified, Primary}
+use Rattle.policy_syntax.proofs.Vocabulary.{Parenthesis, Constant, Event, Comparison, scope_behind, spell, end_lexeme, term_lexeme, term_place, terms_fold, some_terms_fold, arguments_fold}
+use Rattle.policy_syntax.proofs.Vocabulary.{variables_fold, interval_fold, formula_fold, or_fold, and_fold, infix_fold, unary_fold, primary_fold, rule_fold, policy_fold, FormulaFits, OrFits, AndFits}
+use Rattle.policy_syntax.proofs.Vocabulary.{InfixFits, UnaryFits, PrimaryFits, RuleFits, PolicyFits, PolicyLexeme, PlacedLexeme, Symbol, Truth, Prefix, Infix, Quantifier, Sign, NameLexeme}
+use Rattle.policy_syntax.proofs.Vocabulary.{DigitsLexeme, NegativeLexeme, TextLexeme, next_lexeme, next_place, behind_next, Not, And, Or, Arrow, CloseParen, Comma, Dot, Semicolon, Binding}
 use Rattle.policy_syntax.specs.declared.lexemes.Infix as infixes
 use Rattle.policy_syntax.specs.declared.lexemes.Prefix as prefixes
 use Rattle.policy_syntax.specs.declared.lexemes.Quantifier as quantifiers

@@ -1,14 +1,9 @@
 -- A formula is its first operand and the optional parts after it.
-use Rattle.policy_syntax.proofs.Vocabulary.{◌≡◌, ℕ, ◌+◌, List, ◌∷◌, refl, sym, ap, subst, ◌∙◌}
-use Rattle.policy_syntax.proofs.Vocabulary.{Stack, stack_item, infix_on, and_on, or_on, formula_on, FormulaPhrase}
-use Rattle.policy_syntax.proofs.Vocabulary.{OrPhrase, AndPhrase, InfixPhrase, OneSide, Implication, OneCase}
-use Rattle.policy_syntax.proofs.Vocabulary.{Disjunction, OnePart, Conjunction, OneOperand, Between, formula_fold}
-use Rattle.policy_syntax.proofs.Vocabulary.{or_fold, and_fold, infix_fold, unary_fold, interval_fold, FormulaFits}
-use Rattle.policy_syntax.proofs.Vocabulary.{OrFits, AndFits, InfixFits, UnaryFits, PolicyLexeme, Symbol, Infix, Deep}
-use Rattle.policy_syntax.proofs.Vocabulary.{deepen, And, Or, Arrow}
-use Rattle.policy_syntax.proofs.StackMeanings.{Denotes, InfixRest, NoInfix, SomeInfix, Rest, Without, With}
-use Rattle.policy_syntax.proofs.StackMeanings.{InfixRestFits, AndRestFits, OrRestFits, ArrowRestFits, infix_rest_fold}
-use Rattle.policy_syntax.proofs.StackMeanings.{and_rest_fold, or_rest_fold, arrow_rest_fold, next_deep}
+use Rattle.policy_syntax.proofs.Vocabulary.{◌≡◌, ℕ, ◌+◌, List, ◌∷◌, refl, sym, ap, subst, ◌∙◌, Stack, stack_item, infix_on, and_on, or_on, formula_on, FormulaPhrase, OrPhrase, AndPhrase, InfixPhrase}
+use Rattle.policy_syntax.proofs.Vocabulary.{OneSide, Implication, OneCase, Disjunction, OnePart, Conjunction, OneOperand, Between, formula_fold, or_fold, and_fold, infix_fold, unary_fold}
+use Rattle.policy_syntax.proofs.Vocabulary.{interval_fold, FormulaFits, OrFits, AndFits, InfixFits, UnaryFits, PolicyLexeme, Symbol, Infix, Deep, deepen, And, Or, Arrow}
+use Rattle.policy_syntax.proofs.StackMeanings.{Denotes, InfixRest, NoInfix, SomeInfix, Rest, Without, With, InfixRestFits, AndRestFits, OrRestFits, ArrowRestFits, infix_rest_fold, and_rest_fold}
+use Rattle.policy_syntax.proofs.StackMeanings.{or_rest_fold, arrow_rest_fold, next_deep}
 use Rattle.policy_syntax.specs.machine.Automaton as automaton
 
 -- a phrase and what stands after it

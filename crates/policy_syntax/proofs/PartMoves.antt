@@ -1,18 +1,10 @@
 -- What each lexeme is to the automaton, part by part.
-use Rattle.policy_syntax.proofs.Vocabulary.{◌≡◌, ◌≢◌, ⊎_elim, ℕ, ◌+◌, ◌<◌, ◌≤◌, nat_le}
-use Rattle.policy_syntax.proofs.Vocabulary.{nat_lt, Bor, Bool, true, false, ◌||◌, if◌then◌else◌, List, []}
-use Rattle.policy_syntax.proofs.Vocabulary.{◌∷◌, length, Some, None, refl, sym, ap, subst, ◌∙◌, arith}
-use Rattle.policy_syntax.proofs.Vocabulary.{nat_tests, MOST_NAME_BYTES, ItemKind, Stack, Operand, OpenInterval}
-use Rattle.policy_syntax.proofs.Vocabulary.{FirstEnd, IntervalComma, SecondEnd, CloseInterval, BoundVariable}
-use Rattle.policy_syntax.proofs.Vocabulary.{BehindVariable, BehindName, BehindConstant, FirstArgument, NextArgument}
-use Rattle.policy_syntax.proofs.Vocabulary.{BehindArgument, RightSide, is_optional, stack_item, offer, settle, skips}
-use Rattle.policy_syntax.proofs.Vocabulary.{automaton_step, Bars, BarsSymbol, end_refusal, level_refusal}
-use Rattle.policy_syntax.proofs.Vocabulary.{name_lexeme_refusal, node_refusal, term_refusal, next_lexeme_of}
-use Rattle.policy_syntax.proofs.Vocabulary.{next_place_of, Ahead, is_constant, lexeme_of, PolicyLexeme, PlacedLexeme}
-use Rattle.policy_syntax.proofs.Vocabulary.{Symbol, Sign, NameLexeme, DigitsLexeme, NegativeLexeme, TextLexeme}
-use Rattle.policy_syntax.proofs.Vocabulary.{next_lexeme, IsLexemeTaken, OpenParen, CloseParen, OpenBracket}
-use Rattle.policy_syntax.proofs.Vocabulary.{CloseBracket, Comma, Star, MOST_INTERVAL_END, MOST_LEVEL, MOST_NODES}
-use Rattle.policy_syntax.proofs.Vocabulary.{MOST_VARIABLES, Parts, SyntaxRefusal, NoMemory}
+use Rattle.policy_syntax.proofs.Vocabulary.{◌≡◌, ◌≢◌, ⊎_elim, ℕ, ◌+◌, ◌<◌, ◌≤◌, nat_le, nat_lt, Bor, Bool, true, false, ◌||◌, if◌then◌else◌, List, [], ◌∷◌, length, Some, None, refl, sym, ap, subst}
+use Rattle.policy_syntax.proofs.Vocabulary.{◌∙◌, arith, nat_tests, MOST_NAME_BYTES, ItemKind, Stack, Operand, OpenInterval, FirstEnd, IntervalComma, SecondEnd, CloseInterval, BoundVariable}
+use Rattle.policy_syntax.proofs.Vocabulary.{BehindVariable, BehindName, BehindConstant, FirstArgument, NextArgument, BehindArgument, RightSide, is_optional, stack_item, offer, settle, skips}
+use Rattle.policy_syntax.proofs.Vocabulary.{automaton_step, Bars, BarsSymbol, end_refusal, level_refusal, name_lexeme_refusal, node_refusal, term_refusal, next_lexeme_of, next_place_of, Ahead}
+use Rattle.policy_syntax.proofs.Vocabulary.{is_constant, lexeme_of, PolicyLexeme, PlacedLexeme, Symbol, Sign, NameLexeme, DigitsLexeme, NegativeLexeme, TextLexeme, next_lexeme, IsLexemeTaken}
+use Rattle.policy_syntax.proofs.Vocabulary.{OpenParen, CloseParen, OpenBracket, CloseBracket, Comma, Star, MOST_INTERVAL_END, MOST_LEVEL, MOST_NODES, MOST_VARIABLES, Parts, SyntaxRefusal, NoMemory}
 use Rattle.policy_syntax.specs.machine.Automaton.{judge}
 use Rattle.policy_syntax.specs.machine.PartOutcomes.{Continues, RefusesFrom}
 use Rattle.policy_syntax.proofs.JudgedLexemes.{judge_takes, judge_limits}

@@ -1,13 +1,8 @@
 -- The parts of a policy that hold no formula, put together from the lexemes that were taken.
-use Rattle.policy_syntax.proofs.Vocabulary.{◌≡◌, ℕ, ◌+◌, ◌≤◌, true, List, [], ◌∷◌, ◌++◌}
-use Rattle.policy_syntax.proofs.Vocabulary.{Option, None, Some, refl, sym, ap, ◌∙◌, Value, Variable, Plain, Minus}
-use Rattle.policy_syntax.proofs.Vocabulary.{Quoted, LastTerm, NextTerm, LastVariable, NextVariable, Comparison, Event}
-use Rattle.policy_syntax.proofs.Vocabulary.{sign_tree, bound, spell, end_lexeme, Ahead, is_constant, PolicyLexeme}
-use Rattle.policy_syntax.proofs.Vocabulary.{PlacedLexeme, Symbol, Truth, Prefix, Infix, Quantifier, Sign, NameLexeme}
-use Rattle.policy_syntax.proofs.Vocabulary.{DigitsLexeme, NegativeLexeme, TextLexeme, End, Other, IsLexemeTaken}
-use Rattle.policy_syntax.proofs.Vocabulary.{IsConstantLexeme, TermRead, TermsRead, ArgumentsRead, VariablesRead}
-use Rattle.policy_syntax.proofs.Vocabulary.{IntervalRead, PrimaryRead, OpenParen, CloseParen, OpenBracket, CloseBracket}
-use Rattle.policy_syntax.proofs.Vocabulary.{Comma, MOST_VARIABLES, Binding, SyntaxTerm}
+use Rattle.policy_syntax.proofs.Vocabulary.{◌≡◌, ℕ, ◌+◌, ◌≤◌, true, List, [], ◌∷◌, ◌++◌, Option, None, Some, refl, sym, ap, ◌∙◌, Value, Variable, Plain, Minus, Quoted, LastTerm, NextTerm}
+use Rattle.policy_syntax.proofs.Vocabulary.{LastVariable, NextVariable, Comparison, Event, sign_tree, bound, spell, end_lexeme, Ahead, is_constant, PolicyLexeme, PlacedLexeme, Symbol, Truth, Prefix}
+use Rattle.policy_syntax.proofs.Vocabulary.{Infix, Quantifier, Sign, NameLexeme, DigitsLexeme, NegativeLexeme, TextLexeme, End, Other, IsLexemeTaken, IsConstantLexeme, TermRead, TermsRead}
+use Rattle.policy_syntax.proofs.Vocabulary.{ArgumentsRead, VariablesRead, IntervalRead, PrimaryRead, OpenParen, CloseParen, OpenBracket, CloseBracket, Comma, MOST_VARIABLES, Binding, SyntaxTerm}
 use Rattle.policy_syntax.proofs.LexemeLimits.{bound_is}
 use Rattle.policy_syntax.specs.meaning.Grammar as grammar
 use Rattle.policy_syntax.specs.meaning.Trees as tree

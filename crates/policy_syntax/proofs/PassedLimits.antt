@@ -1,14 +1,9 @@
 -- A lexeme passes a limit exactly where the automaton says so.
-use Rattle.policy_syntax.proofs.Vocabulary.{◌≡◌, ◌≢◌, ⊎_elim, ℕ, ◌+◌, ◌<◌, ◌≤◌, nat_le}
-use Rattle.policy_syntax.proofs.Vocabulary.{nat_lt, Bool, true, false, true≢false, ◌||◌, ◌&&◌}
-use Rattle.policy_syntax.proofs.Vocabulary.{if◌then◌else◌, List, [], ◌∷◌, ◌++◌, length, reverse, Some}
-use Rattle.policy_syntax.proofs.Vocabulary.{refl, sym, ap, subst, ◌∙◌, arith, reverse-append, or_cases, or_left}
-use Rattle.policy_syntax.proofs.Vocabulary.{or_right, MOST_NAME_BYTES, true_from_lt, true_from_le, lt_from_true}
-use Rattle.policy_syntax.proofs.Vocabulary.{le_from_true, ItemKind, Stack, offer, is_over, is_beyond, limit_place}
-use Rattle.policy_syntax.proofs.Vocabulary.{PolicyLexeme, PlacedLexeme, Symbol, NameLexeme, DigitsLexeme, kinds_behind}
-use Rattle.policy_syntax.proofs.Vocabulary.{ends_in_name, is_operator, is_rule, nodes_behind, rules_behind}
-use Rattle.policy_syntax.proofs.Vocabulary.{IsBehindName, IsDeep, PassesLimit, Rule, OpenParen, MOST_INTERVAL_END}
-use Rattle.policy_syntax.proofs.Vocabulary.{MOST_LEVEL, MOST_NODES, MOST_RULES, MOST_VARIABLES}
+use Rattle.policy_syntax.proofs.Vocabulary.{◌≡◌, ◌≢◌, ⊎_elim, ℕ, ◌+◌, ◌<◌, ◌≤◌, nat_le, nat_lt, Bool, true, false, true≢false, ◌||◌, ◌&&◌, if◌then◌else◌, List, [], ◌∷◌, ◌++◌, length, reverse, Some}
+use Rattle.policy_syntax.proofs.Vocabulary.{refl, sym, ap, subst, ◌∙◌, arith, reverse-append, or_cases, or_left, or_right, MOST_NAME_BYTES, true_from_lt, true_from_le, lt_from_true, le_from_true}
+use Rattle.policy_syntax.proofs.Vocabulary.{ItemKind, Stack, offer, is_over, is_beyond, limit_place, PolicyLexeme, PlacedLexeme, Symbol, NameLexeme, DigitsLexeme, kinds_behind, ends_in_name}
+use Rattle.policy_syntax.proofs.Vocabulary.{is_operator, is_rule, nodes_behind, rules_behind, IsBehindName, IsDeep, PassesLimit, Rule, OpenParen, MOST_INTERVAL_END, MOST_LEVEL, MOST_NODES, MOST_RULES}
+use Rattle.policy_syntax.proofs.Vocabulary.{MOST_VARIABLES}
 use Rattle.policy_syntax.proofs.AutomatonCounts.{Suits, ends_in_rule, is_end, behind_push}
 use Rattle.policy_syntax.specs.machine.Automaton as automaton
 use Rattle.policy_syntax.specs.meaning.Refusals as refusals

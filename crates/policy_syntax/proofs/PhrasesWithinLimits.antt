@@ -1,33 +1,20 @@
 -- In a phrase that keeps the limits nothing is refused.
-use Rattle.policy_syntax.proofs.Vocabulary.{◌≡◌, ℕ, ◌+◌, ◌≤◌, nat_le, Bool, true, false, ◌&&◌}
-use Rattle.policy_syntax.proofs.Vocabulary.{List, [], ◌∷◌, length, Option, None, Some, refl, sym, ap, subst}
-use Rattle.policy_syntax.proofs.Vocabulary.{◌∙◌, arith, and_parts, AllByRecursion, MOST_NAME_BYTES, Stack}
-use Rattle.policy_syntax.proofs.Vocabulary.{stack_item, infix_on, and_on, or_on, formula_on, TermPhrase, TermsPhrase}
-use Rattle.policy_syntax.proofs.Vocabulary.{ArgumentsPhrase, VariablesPhrase, IntervalPhrase, FormulaPhrase, OrPhrase}
-use Rattle.policy_syntax.proofs.Vocabulary.{AndPhrase, InfixPhrase, UnaryPhrase, Variable, Plain, Minus, Quoted}
-use Rattle.policy_syntax.proofs.Vocabulary.{LastTerm, NextTerm, LastVariable, NextVariable, OneSide, Implication}
-use Rattle.policy_syntax.proofs.Vocabulary.{OneCase, Disjunction, OnePart, Conjunction, OneOperand, Between, Negation}
-use Rattle.policy_syntax.proofs.Vocabulary.{Before, Quantified, Primary, Parenthesis, Constant, Event, Comparison}
-use Rattle.policy_syntax.proofs.Vocabulary.{term_tree, terms_list, some_terms_list, variables_list, interval_of}
-use Rattle.policy_syntax.proofs.Vocabulary.{formula_tree, or_tree, and_tree, binary_tree, unary_tree, primary_tree}
-use Rattle.policy_syntax.proofs.Vocabulary.{infix_tree, prefix_tree, quantifier_tree, sign_tree, truth_tree}
-use Rattle.policy_syntax.proofs.Vocabulary.{scope_behind, end_lexeme, term_lexeme, term_place, spell, bound, terms_fold}
-use Rattle.policy_syntax.proofs.Vocabulary.{some_terms_fold, variables_fold, interval_fold, formula_fold, or_fold}
-use Rattle.policy_syntax.proofs.Vocabulary.{and_fold, infix_fold, unary_fold, primary_fold, term_fold, PolicyLexeme}
-use Rattle.policy_syntax.proofs.Vocabulary.{PlacedLexeme, Symbol, Truth, Prefix, Infix, Quantifier, Sign, NameLexeme}
-use Rattle.policy_syntax.proofs.Vocabulary.{DigitsLexeme, NegativeLexeme, TextLexeme, next_lexeme, EndsFit, IsBounded}
-use Rattle.policy_syntax.proofs.Vocabulary.{KeepsLimits, IsShortName, IsShortTerm, tree_size, SyntaxTree, Not, And, Or}
-use Rattle.policy_syntax.proofs.Vocabulary.{Arrow, OpenParen, CloseParen, OpenBracket, CloseBracket, Comma, Dot, Star}
-use Rattle.policy_syntax.proofs.Vocabulary.{MOST_INTERVAL_END, MOST_LEVEL, MOST_NODES, MOST_VARIABLES, Binding}
-use Rattle.policy_syntax.proofs.Vocabulary.{Interval}
+use Rattle.policy_syntax.proofs.Vocabulary.{◌≡◌, ℕ, ◌+◌, ◌≤◌, nat_le, Bool, true, false, ◌&&◌, List, [], ◌∷◌, length, Option, None, Some, refl, sym, ap, subst, ◌∙◌, arith, and_parts, AllByRecursion}
+use Rattle.policy_syntax.proofs.Vocabulary.{MOST_NAME_BYTES, Stack, stack_item, infix_on, and_on, or_on, formula_on, TermPhrase, TermsPhrase, ArgumentsPhrase, VariablesPhrase, IntervalPhrase}
+use Rattle.policy_syntax.proofs.Vocabulary.{FormulaPhrase, OrPhrase, AndPhrase, InfixPhrase, UnaryPhrase, Variable, Plain, Minus, Quoted, LastTerm, NextTerm, LastVariable, NextVariable, OneSide}
+use Rattle.policy_syntax.proofs.Vocabulary.{Implication, OneCase, Disjunction, OnePart, Conjunction, OneOperand, Between, Negation, Before, Quantified, Primary, Parenthesis, Constant, Event}
+use Rattle.policy_syntax.proofs.Vocabulary.{Comparison, term_tree, terms_list, some_terms_list, variables_list, interval_of, formula_tree, or_tree, and_tree, binary_tree, unary_tree, primary_tree}
+use Rattle.policy_syntax.proofs.Vocabulary.{infix_tree, prefix_tree, quantifier_tree, sign_tree, truth_tree, scope_behind, end_lexeme, term_lexeme, term_place, spell, bound, terms_fold}
+use Rattle.policy_syntax.proofs.Vocabulary.{some_terms_fold, variables_fold, interval_fold, formula_fold, or_fold, and_fold, infix_fold, unary_fold, primary_fold, term_fold, PolicyLexeme}
+use Rattle.policy_syntax.proofs.Vocabulary.{PlacedLexeme, Symbol, Truth, Prefix, Infix, Quantifier, Sign, NameLexeme, DigitsLexeme, NegativeLexeme, TextLexeme, next_lexeme, EndsFit, IsBounded}
+use Rattle.policy_syntax.proofs.Vocabulary.{KeepsLimits, IsShortName, IsShortTerm, tree_size, SyntaxTree, Not, And, Or, Arrow, OpenParen, CloseParen, OpenBracket, CloseBracket, Comma, Dot, Star}
+use Rattle.policy_syntax.proofs.Vocabulary.{MOST_INTERVAL_END, MOST_LEVEL, MOST_NODES, MOST_VARIABLES, Binding, Interval}
 use Rattle.policy_syntax.specs.machine.Automaton.{judge}
 use Rattle.policy_syntax.proofs.StackMeanings.{counted}
 use Rattle.policy_syntax.proofs.FormulaPhrases.{size_infix, size_prefix, size_quantifier}
 use Rattle.policy_syntax.proofs.JudgedLexemes.{judge_takes}
-use Rattle.policy_syntax.proofs.StackBeginnings.{first_offered, next_offered, right_offered, skips_and, skips_arrow}
-use Rattle.policy_syntax.proofs.StackBeginnings.{skips_infix, skips_or}
-use Rattle.policy_syntax.proofs.UnrefusedPhrases.{Passed, TermsPassed, first_kind, next_kind, right_kind, size_sign}
-use Rattle.policy_syntax.proofs.UnrefusedPhrases.{size_truth}
+use Rattle.policy_syntax.proofs.StackBeginnings.{first_offered, next_offered, right_offered, skips_and, skips_arrow, skips_infix, skips_or}
+use Rattle.policy_syntax.proofs.UnrefusedPhrases.{Passed, TermsPassed, first_kind, next_kind, right_kind, size_sign, size_truth}
 use Rattle.policy_syntax.proofs.UnrefusedLexemes.{Low, bound_out, le_false, lt_false, low_in, tail_skips, term_in}
 use Rattle.policy_syntax.specs.machine.Automaton as automaton
 use Rattle.policy_syntax.specs.meaning.Grammar as grammar

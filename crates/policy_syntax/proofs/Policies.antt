@@ -1,15 +1,9 @@
 -- Nothing is refused in exactly the policies within the limits.
-use Rattle.policy_syntax.proofs.Vocabulary.{◌≡◌, ◌≢◌, ℕ, ◌+◌, ◌≤◌, Bool, true, false}
-use Rattle.policy_syntax.proofs.Vocabulary.{true≢false, List, [], ◌∷◌, ◌++◌, length, map, Contains, Option}
-use Rattle.policy_syntax.proofs.Vocabulary.{None, Some, Result, Ok, Err, refl, sym, ap, subst, ◌∙◌, append_assoc}
-use Rattle.policy_syntax.proofs.Vocabulary.{length-append, arith, append-nil, list_any, AllByRecursion, bytes_eq}
-use Rattle.policy_syntax.proofs.Vocabulary.{bytes_eq-Decides, list_any-Decides, HasNoRepeats-middle, HasNoRepeats-push}
-use Rattle.policy_syntax.proofs.Vocabulary.{HasNoRepeats, MOST_NAME_BYTES, stack_item, formula_on, start_stack}
-use Rattle.policy_syntax.proofs.Vocabulary.{PolicyFits, bound, formula_fold, policy_fold, policy_tree, spell}
-use Rattle.policy_syntax.proofs.Vocabulary.{IsPolicyText, RulePhrase, formula_tree, PlacedLexeme, Symbol, NameLexeme}
-use Rattle.policy_syntax.proofs.Vocabulary.{lexemes, IsPolicy, IsRule, tree_size, PolicyRule as RuleTree}
-use Rattle.policy_syntax.proofs.Vocabulary.{CallGivesSyntax, GivesSyntaxAnswer, IsSyntaxAnswer, Rule, Colon, Semicolon}
-use Rattle.policy_syntax.proofs.Vocabulary.{MOST_RULES, SyntaxRefusal, Syntax, Limit, NoMemory}
+use Rattle.policy_syntax.proofs.Vocabulary.{◌≡◌, ◌≢◌, ℕ, ◌+◌, ◌≤◌, Bool, true, false, true≢false, List, [], ◌∷◌, ◌++◌, length, map, Contains, Option, None, Some, Result, Ok, Err, refl, sym, ap, subst}
+use Rattle.policy_syntax.proofs.Vocabulary.{◌∙◌, append_assoc, length-append, arith, append-nil, list_any, AllByRecursion, bytes_eq, bytes_eq-Decides, list_any-Decides, HasNoRepeats-middle}
+use Rattle.policy_syntax.proofs.Vocabulary.{HasNoRepeats-push, HasNoRepeats, MOST_NAME_BYTES, stack_item, formula_on, start_stack, PolicyFits, bound, formula_fold, policy_fold, policy_tree, spell}
+use Rattle.policy_syntax.proofs.Vocabulary.{IsPolicyText, RulePhrase, formula_tree, PlacedLexeme, Symbol, NameLexeme, lexemes, IsPolicy, IsRule, tree_size, PolicyRule as RuleTree, CallGivesSyntax}
+use Rattle.policy_syntax.proofs.Vocabulary.{GivesSyntaxAnswer, IsSyntaxAnswer, Rule, Colon, Semicolon, MOST_RULES, SyntaxRefusal, Syntax, Limit, NoMemory}
 use Rattle.policy_syntax.specs.machine.Automaton.{judge}
 use Rattle.policy_syntax.proofs.LexemeLimits.{bound_is}
 use Rattle.policy_syntax.proofs.PhrasesWithinLimits.{formula_bound, formula_in}
@@ -18,8 +12,7 @@ use Rattle.policy_syntax.proofs.FirstRefusals.{first_judged, judged_first, judge
 use Rattle.policy_syntax.proofs.OneTree.{policy_one}
 use Rattle.policy_syntax.proofs.UnrefusedPhrases.{formula_out}
 use Rattle.policy_syntax.proofs.LexemeRefusals.{start_on}
-use Rattle.policy_syntax.proofs.UnrefusedLexemes.{bound_out, false_le, false_lt, le_false, low_in, low_out, lt_false}
-use Rattle.policy_syntax.proofs.UnrefusedLexemes.{went}
+use Rattle.policy_syntax.proofs.UnrefusedLexemes.{bound_out, false_le, false_lt, le_false, low_in, low_out, lt_false, went}
 use Rattle.policy_syntax.specs.machine.Automaton as automaton
 
 -- the names of rules

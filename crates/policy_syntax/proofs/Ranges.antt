@@ -1,11 +1,7 @@
 -- A token is not the end, a number is one of i64, and the lexemes ahead are those of the tokens.
-use Rattle.policy_syntax.proofs.Vocabulary.{◌≡◌, refl, ℕ, Bool, true, false, ◌||◌, codes}
-use Rattle.policy_syntax.proofs.Vocabulary.{if◌then◌else◌, List, Option, None, Some, [], ◌∷◌, map, sym, ap}
-use Rattle.policy_syntax.proofs.Vocabulary.{◌∙◌, bytes_eq, Token, tokens_at, IsProper, Mark, PolicyLexeme}
-use Rattle.policy_syntax.proofs.Vocabulary.{lexemes_at, NameLexeme, Other, infix_of, lexeme_of_infix, lexeme_of_mark}
-use Rattle.policy_syntax.proofs.Vocabulary.{lexeme_of_prefix, lexeme_of_quantifier, lexeme_of_symbol, lexeme_of_token}
-use Rattle.policy_syntax.proofs.Vocabulary.{lexeme_of_truth, prefix_of, quantifier_of, symbol_of, truth_of}
-use Rattle.policy_syntax.proofs.Vocabulary.{lexeme_ahead, IsInRange, is_end_lexeme}
+use Rattle.policy_syntax.proofs.Vocabulary.{◌≡◌, refl, ℕ, Bool, true, false, ◌||◌, codes, if◌then◌else◌, List, Option, None, Some, [], ◌∷◌, map, sym, ap, ◌∙◌, bytes_eq, Token, tokens_at, IsProper}
+use Rattle.policy_syntax.proofs.Vocabulary.{Mark, PolicyLexeme, lexemes_at, NameLexeme, Other, infix_of, lexeme_of_infix, lexeme_of_mark, lexeme_of_prefix, lexeme_of_quantifier, lexeme_of_symbol}
+use Rattle.policy_syntax.proofs.Vocabulary.{lexeme_of_token, lexeme_of_truth, prefix_of, quantifier_of, symbol_of, truth_of, lexeme_ahead, IsInRange, is_end_lexeme}
 use Rattle.policy_syntax.specs.declared.lexemes.Infix.{Infix}
 use Rattle.policy_syntax.specs.declared.lexemes.Prefix.{Prefix}
 use Rattle.policy_syntax.specs.declared.lexemes.Quantifier.{Quantifier}

@@ -1,9 +1,6 @@
 -- The answer of the reader, from what the automaton refuses.
-use Rattle.policy_syntax.proofs.Vocabulary.{◌≡◌, ℕ, List, [], length, None, Result, Err, sym, ap, subst}
-use Rattle.policy_syntax.proofs.Vocabulary.{◌∙◌, err_from_is_err_and, IsErrAnd, Bars, policy_tree, IsPolicyText}
-use Rattle.policy_syntax.proofs.Vocabulary.{PolicyRead, lexemes, IsPolicy, PolicyRule, CallGivesSyntax}
-use Rattle.policy_syntax.proofs.Vocabulary.{GivesSyntaxAnswer, syntax_answer_of, IsSyntaxAnswer, SyntaxRefusal}
-use Rattle.policy_syntax.proofs.Vocabulary.{SyntaxPolicy}
+use Rattle.policy_syntax.proofs.Vocabulary.{◌≡◌, ℕ, List, [], length, None, Result, Err, sym, ap, subst, ◌∙◌, err_from_is_err_and, IsErrAnd, Bars, policy_tree, IsPolicyText, PolicyRead, lexemes}
+use Rattle.policy_syntax.proofs.Vocabulary.{IsPolicy, PolicyRule, CallGivesSyntax, GivesSyntaxAnswer, syntax_answer_of, IsSyntaxAnswer, SyntaxRefusal, SyntaxPolicy}
 use Rattle.policy_syntax.proofs.OneTree.{policy_one}
 use Rattle.policy_syntax.proofs.Policies.{Answer, error_answer, error_gives, judged, policy_out}
 

@@ -1,15 +1,9 @@
 -- What each lexeme of a rule outside its formula is to the automaton.
-use Rattle.policy_syntax.proofs.Vocabulary.{◌≡◌, ◌≢◌, ⊎_elim, ℕ, suc, ◌<◌, ◌≤◌, nat_le}
-use Rattle.policy_syntax.proofs.Vocabulary.{nat_lt, true, false, ◌||◌, List, [], ◌∷◌, ◌++◌, length}
-use Rattle.policy_syntax.proofs.Vocabulary.{Result, None, Some, Err, refl, sym, ap, subst, ◌∙◌, arith, nat_tests}
-use Rattle.policy_syntax.proofs.Vocabulary.{err_from_is_err_and, list_any, IsErrAnd, bytes_eq, MOST_NAME_BYTES, Stack}
-use Rattle.policy_syntax.proofs.Vocabulary.{AutomatonState, MoreRules, RuleName, RuleColon, RuleEnd, formula_on}
-use Rattle.policy_syntax.proofs.Vocabulary.{stack_item, settle, start_stack, automaton_step, then_judged, Bars}
-use Rattle.policy_syntax.proofs.Vocabulary.{BarsSymbol, JudgesRule, level_refusal, name_lexeme_refusal, judge_from}
-use Rattle.policy_syntax.proofs.Vocabulary.{next_lexeme_of, next_place_of, PolicyLexeme, PlacedLexeme, Symbol}
-use Rattle.policy_syntax.proofs.Vocabulary.{NameLexeme, next_lexeme, next_place, IsLexemeTaken, has_name, is_name_of}
-use Rattle.policy_syntax.proofs.Vocabulary.{syntax_rule_names, Rule, Colon, Semicolon, MOST_RULES, Parts, SyntaxRefusal}
-use Rattle.policy_syntax.proofs.Vocabulary.{Syntax, Limit, NoMemory, SyntaxRule}
+use Rattle.policy_syntax.proofs.Vocabulary.{◌≡◌, ◌≢◌, ⊎_elim, ℕ, suc, ◌<◌, ◌≤◌, nat_le, nat_lt, true, false, ◌||◌, List, [], ◌∷◌, ◌++◌, length, Result, None, Some, Err, refl, sym, ap, subst, ◌∙◌}
+use Rattle.policy_syntax.proofs.Vocabulary.{arith, nat_tests, err_from_is_err_and, list_any, IsErrAnd, bytes_eq, MOST_NAME_BYTES, Stack, AutomatonState, MoreRules, RuleName, RuleColon, RuleEnd}
+use Rattle.policy_syntax.proofs.Vocabulary.{formula_on, stack_item, settle, start_stack, automaton_step, then_judged, Bars, BarsSymbol, JudgesRule, level_refusal, name_lexeme_refusal, judge_from}
+use Rattle.policy_syntax.proofs.Vocabulary.{next_lexeme_of, next_place_of, PolicyLexeme, PlacedLexeme, Symbol, NameLexeme, next_lexeme, next_place, IsLexemeTaken, has_name, is_name_of}
+use Rattle.policy_syntax.proofs.Vocabulary.{syntax_rule_names, Rule, Colon, Semicolon, MOST_RULES, Parts, SyntaxRefusal, Syntax, Limit, NoMemory, SyntaxRule}
 use Rattle.policy_syntax.specs.machine.Automaton.{judge}
 use Rattle.policy_syntax.specs.machine.PartOutcomes.{Continues, RefusesFrom}
 use Rattle.policy_syntax.proofs.JudgedLexemes.{judge_takes, judge_limits, judge_refuses, judge_sticks, judge_ends}

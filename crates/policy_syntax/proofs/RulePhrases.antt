@@ -1,9 +1,6 @@
 -- Rules and policies, put together from their parts.
-use Rattle.policy_syntax.proofs.Vocabulary.{◌≡◌, ℕ, ◌≤◌, true, List, [], ◌∷◌, ◌++◌, map, refl}
-use Rattle.policy_syntax.proofs.Vocabulary.{sym, ap, subst, ◌∙◌, arith, bound, spell, PolicyRead, Ahead}
-use Rattle.policy_syntax.proofs.Vocabulary.{PolicyLexeme, PlacedLexeme, Symbol, NameLexeme, next_lexeme, IsLexemeTaken}
-use Rattle.policy_syntax.proofs.Vocabulary.{FormulaRead, RuleRead, SyntaxTree, PolicyRule, policy_rule_of}
-use Rattle.policy_syntax.proofs.Vocabulary.{MOST_VARIABLES, SyntaxRule}
+use Rattle.policy_syntax.proofs.Vocabulary.{◌≡◌, ℕ, ◌≤◌, true, List, [], ◌∷◌, ◌++◌, map, refl, sym, ap, subst, ◌∙◌, arith, bound, spell, PolicyRead, Ahead, PolicyLexeme, PlacedLexeme, Symbol}
+use Rattle.policy_syntax.proofs.Vocabulary.{NameLexeme, next_lexeme, IsLexemeTaken, FormulaRead, RuleRead, SyntaxTree, PolicyRule, policy_rule_of, MOST_VARIABLES, SyntaxRule}
 use Rattle.policy_syntax.proofs.LexemeLimits.{bound_is}
 use Rattle.policy_syntax.specs.meaning.Grammar as grammar
 use Rattle.policy_syntax.specs.declared.lexemes.Symbol.TheVariants as symbols

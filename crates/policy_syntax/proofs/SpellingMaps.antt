@@ -1,17 +1,11 @@
 -- A map that takes one step of a spelling to another takes the spellings to each other.
-use Rattle.policy_syntax.proofs.Vocabulary.{◌≡◌, ℕ, ◌+◌, List, [], ◌∷◌, map, Option, None, Some, refl}
-use Rattle.policy_syntax.proofs.Vocabulary.{ap, ◌∙◌, LexemeStep, scope_behind, end_lexeme, term_lexeme}
-use Rattle.policy_syntax.proofs.Vocabulary.{term_place, spell, term_fold, terms_fold, some_terms_fold, arguments_fold}
-use Rattle.policy_syntax.proofs.Vocabulary.{variables_fold, interval_fold, formula_fold, or_fold, and_fold, infix_fold}
-use Rattle.policy_syntax.proofs.Vocabulary.{unary_fold, primary_fold, rule_fold, policy_fold, TermsPhrase}
-use Rattle.policy_syntax.proofs.Vocabulary.{ArgumentsPhrase, VariablesPhrase, IntervalPhrase, FormulaPhrase, OrPhrase}
-use Rattle.policy_syntax.proofs.Vocabulary.{AndPhrase, InfixPhrase, UnaryPhrase, PrimaryPhrase, RulePhrase, LastTerm}
-use Rattle.policy_syntax.proofs.Vocabulary.{NextTerm, LastVariable, NextVariable, OneSide, Implication, OneCase}
-use Rattle.policy_syntax.proofs.Vocabulary.{Disjunction, OnePart, Conjunction, OneOperand, Between, Negation, Before}
-use Rattle.policy_syntax.proofs.Vocabulary.{Quantified, Primary, Parenthesis, Constant, Event, Comparison, PolicyLexeme}
-use Rattle.policy_syntax.proofs.Vocabulary.{PlacedLexeme, Symbol, Truth, Prefix, Infix, Quantifier, Sign, NameLexeme}
-use Rattle.policy_syntax.proofs.Vocabulary.{DigitsLexeme, Deep, deepen, Rule, Not, And, Or, Arrow, OpenParen}
-use Rattle.policy_syntax.proofs.Vocabulary.{CloseParen, OpenBracket, CloseBracket, Comma, Semicolon, Colon, Dot}
+use Rattle.policy_syntax.proofs.Vocabulary.{◌≡◌, ℕ, ◌+◌, List, [], ◌∷◌, map, Option, None, Some, refl, ap, ◌∙◌, LexemeStep, scope_behind, end_lexeme, term_lexeme, term_place, spell, term_fold}
+use Rattle.policy_syntax.proofs.Vocabulary.{terms_fold, some_terms_fold, arguments_fold, variables_fold, interval_fold, formula_fold, or_fold, and_fold, infix_fold, unary_fold, primary_fold}
+use Rattle.policy_syntax.proofs.Vocabulary.{rule_fold, policy_fold, TermsPhrase, ArgumentsPhrase, VariablesPhrase, IntervalPhrase, FormulaPhrase, OrPhrase, AndPhrase, InfixPhrase, UnaryPhrase}
+use Rattle.policy_syntax.proofs.Vocabulary.{PrimaryPhrase, RulePhrase, LastTerm, NextTerm, LastVariable, NextVariable, OneSide, Implication, OneCase, Disjunction, OnePart, Conjunction, OneOperand}
+use Rattle.policy_syntax.proofs.Vocabulary.{Between, Negation, Before, Quantified, Primary, Parenthesis, Constant, Event, Comparison, PolicyLexeme, PlacedLexeme, Symbol, Truth, Prefix, Infix}
+use Rattle.policy_syntax.proofs.Vocabulary.{Quantifier, Sign, NameLexeme, DigitsLexeme, Deep, deepen, Rule, Not, And, Or, Arrow, OpenParen, CloseParen, OpenBracket, CloseBracket, Comma, Semicolon}
+use Rattle.policy_syntax.proofs.Vocabulary.{Colon, Dot}
 
 -- ---- a map that takes one step to another takes one fold to the other
 

@@ -1,20 +1,11 @@
 -- What a stack stands for begins with a lexeme that begins its next item, at its level and scope.
-use Rattle.policy_syntax.proofs.Vocabulary.{◌≡◌, ◌≢◌, ◌⊎◌, inl, inr, ℕ, ◌+◌, Bool, true, false}
-use Rattle.policy_syntax.proofs.Vocabulary.{if◌then◌else◌, List, [], ◌∷◌, ◌++◌, Option, None, Some}
-use Rattle.policy_syntax.proofs.Vocabulary.{refl, ap, subst, ◌∙◌, ItemKind, StackItem, Stack, stack_item}
-use Rattle.policy_syntax.proofs.Vocabulary.{formula_on, and_on, or_on, offer, skips, settle, AndPhrase, FormulaPhrase}
-use Rattle.policy_syntax.proofs.Vocabulary.{OrPhrase, RulePhrase, TermPhrase, TermsPhrase, UnaryPhrase, VariablesPhrase}
-use Rattle.policy_syntax.proofs.Vocabulary.{Variable, Plain, Minus, Quoted, LastTerm, NextTerm, LastVariable}
-use Rattle.policy_syntax.proofs.Vocabulary.{NextVariable, Negation, Before, Quantified, Primary, Parenthesis, Constant}
-use Rattle.policy_syntax.proofs.Vocabulary.{Event, Comparison, end_lexeme, term_lexeme, PolicyLexeme, Symbol, Infix}
-use Rattle.policy_syntax.proofs.Vocabulary.{Deep, deepen, Rule, And, Or, Arrow, CloseParen}
-use Rattle.policy_syntax.proofs.StackMeanings.{Denotes, InfixRest, NoInfix, SomeInfix, Rest, Without, With}
-use Rattle.policy_syntax.proofs.StackMeanings.{VariableRest, Dotted, Further, NameRest, Called, Compared, TermRest}
-use Rattle.policy_syntax.proofs.StackMeanings.{Closed, Another, scoped_fold, scoped_is, next_deep, InfixRestFits}
-use Rattle.policy_syntax.proofs.StackMeanings.{AndRestFits, OrRestFits, ArrowRestFits, MoreFits, VariableRestFits}
-use Rattle.policy_syntax.proofs.StackMeanings.{infix_rest_fold, and_rest_fold, or_rest_fold, arrow_rest_fold}
-use Rattle.policy_syntax.proofs.StackMeanings.{rules_fold, rule_end_fold, variable_rest_fold, name_rest_fold}
-use Rattle.policy_syntax.proofs.StackMeanings.{first_terms_fold, next_terms_fold, term_rest_fold}
+use Rattle.policy_syntax.proofs.Vocabulary.{◌≡◌, ◌≢◌, ◌⊎◌, inl, inr, ℕ, ◌+◌, Bool, true, false, if◌then◌else◌, List, [], ◌∷◌, ◌++◌, Option, None, Some, refl, ap, subst, ◌∙◌, ItemKind, StackItem}
+use Rattle.policy_syntax.proofs.Vocabulary.{Stack, stack_item, formula_on, and_on, or_on, offer, skips, settle, AndPhrase, FormulaPhrase, OrPhrase, RulePhrase, TermPhrase, TermsPhrase, UnaryPhrase}
+use Rattle.policy_syntax.proofs.Vocabulary.{VariablesPhrase, Variable, Plain, Minus, Quoted, LastTerm, NextTerm, LastVariable, NextVariable, Negation, Before, Quantified, Primary, Parenthesis}
+use Rattle.policy_syntax.proofs.Vocabulary.{Constant, Event, Comparison, end_lexeme, term_lexeme, PolicyLexeme, Symbol, Infix, Deep, deepen, Rule, And, Or, Arrow, CloseParen}
+use Rattle.policy_syntax.proofs.StackMeanings.{Denotes, InfixRest, NoInfix, SomeInfix, Rest, Without, With, VariableRest, Dotted, Further, NameRest, Called, Compared, TermRest, Closed, Another}
+use Rattle.policy_syntax.proofs.StackMeanings.{scoped_fold, scoped_is, next_deep, InfixRestFits, AndRestFits, OrRestFits, ArrowRestFits, MoreFits, VariableRestFits, infix_rest_fold, and_rest_fold}
+use Rattle.policy_syntax.proofs.StackMeanings.{or_rest_fold, arrow_rest_fold, rules_fold, rule_end_fold, variable_rest_fold, name_rest_fold, first_terms_fold, next_terms_fold, term_rest_fold}
 use Rattle.policy_syntax.proofs.OperandParts.{and_split, or_split, formula_split}
 use Rattle.policy_syntax.specs.machine.Automaton as automaton
 use Rattle.policy_syntax.specs.meaning.Grammar as grammar

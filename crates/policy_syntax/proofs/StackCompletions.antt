@@ -1,9 +1,6 @@
 -- Each stack stands for some text, and for the empty one where nothing need come.
-use Rattle.policy_syntax.proofs.Vocabulary.{◌≡◌, ℕ, true, ◌&&◌, List, [], ◌∷◌, inl, inr, refl, sym}
-use Rattle.policy_syntax.proofs.Vocabulary.{◌∙◌, and_parts, ItemKind, Stack, stack_item, formula_on, skips}
-use Rattle.policy_syntax.proofs.Vocabulary.{is_optional, accepts, PolicyLexeme, Symbol, Truth, Sign, NameLexeme}
-use Rattle.policy_syntax.proofs.Vocabulary.{DigitsLexeme, End, Deep, deepen, Equal, CloseParen, OpenBracket}
-use Rattle.policy_syntax.proofs.Vocabulary.{CloseBracket, Comma, Semicolon, Colon, Dot, Star}
+use Rattle.policy_syntax.proofs.Vocabulary.{◌≡◌, ℕ, true, ◌&&◌, List, [], ◌∷◌, inl, inr, refl, sym, ◌∙◌, and_parts, ItemKind, Stack, stack_item, formula_on, skips, is_optional, accepts, PolicyLexeme}
+use Rattle.policy_syntax.proofs.Vocabulary.{Symbol, Truth, Sign, NameLexeme, DigitsLexeme, End, Deep, deepen, Equal, CloseParen, OpenBracket, CloseBracket, Comma, Semicolon, Colon, Dot, Star}
 use Rattle.policy_syntax.proofs.StackMeanings.{Denotes, next_deep}
 use Rattle.policy_syntax.proofs.StackBeginnings.{Onward, onward}
 use Rattle.policy_syntax.proofs.StackPredecessors.{back, skip_back}

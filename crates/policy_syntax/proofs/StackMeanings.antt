@@ -1,11 +1,8 @@
 -- What a stack of the automaton stands for: phrases one after the other.
-use Rattle.policy_syntax.proofs.Vocabulary.{◌≡◌, ◌≢◌, ℕ, ◌+◌, List, [], ◌∷◌, length, Option}
-use Rattle.policy_syntax.proofs.Vocabulary.{refl, sym, ap, ◌∙◌, arith, ItemKind, Stack, ArgumentsPhrase}
-use Rattle.policy_syntax.proofs.Vocabulary.{AndPhrase, FormulaPhrase, IntervalPhrase, OrPhrase, RulePhrase, TermPhrase}
-use Rattle.policy_syntax.proofs.Vocabulary.{TermsPhrase, UnaryPhrase, VariablesPhrase, LastVariable, NextVariable}
-use Rattle.policy_syntax.proofs.Vocabulary.{variables_list, end_lexeme, scope_behind, PolicyLexeme, Symbol, Infix, Sign}
-use Rattle.policy_syntax.proofs.Vocabulary.{NameLexeme, DigitsLexeme, End, Deep, deepen, Binding, Rule, And, Or, Arrow}
-use Rattle.policy_syntax.proofs.Vocabulary.{CloseParen, CloseBracket, Comma, Semicolon, Colon, Dot}
+use Rattle.policy_syntax.proofs.Vocabulary.{◌≡◌, ◌≢◌, ℕ, ◌+◌, List, [], ◌∷◌, length, Option, refl, sym, ap, ◌∙◌, arith, ItemKind, Stack, ArgumentsPhrase, AndPhrase, FormulaPhrase, IntervalPhrase}
+use Rattle.policy_syntax.proofs.Vocabulary.{OrPhrase, RulePhrase, TermPhrase, TermsPhrase, UnaryPhrase, VariablesPhrase, LastVariable, NextVariable, variables_list, end_lexeme, scope_behind}
+use Rattle.policy_syntax.proofs.Vocabulary.{PolicyLexeme, Symbol, Infix, Sign, NameLexeme, DigitsLexeme, End, Deep, deepen, Binding, Rule, And, Or, Arrow, CloseParen, CloseBracket, Comma, Semicolon}
+use Rattle.policy_syntax.proofs.Vocabulary.{Colon, Dot}
 use Rattle.policy_syntax.specs.machine.Automaton as automaton
 use Rattle.policy_syntax.specs.meaning.Grammar as grammar
 use Rattle.policy_syntax.specs.declared.lexemes.Infix as infixes

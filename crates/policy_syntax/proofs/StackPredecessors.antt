@@ -1,19 +1,12 @@
 -- A lexeme that begins the next item, before what the stack stands for then, is what it stood for; and each stack stands
 -- for something.
-use Rattle.policy_syntax.proofs.Vocabulary.{◌≡◌, ◌≢◌, ℕ, ◌+◌, Bool, true, false, true≢false}
-use Rattle.policy_syntax.proofs.Vocabulary.{if◌then◌else◌, List, [], ◌∷◌, ◌++◌, Option, None, Some}
-use Rattle.policy_syntax.proofs.Vocabulary.{refl, sym, ap, subst, ◌∙◌, ItemKind, StackItem, Stack, stack_item}
-use Rattle.policy_syntax.proofs.Vocabulary.{formula_on, offer, skips, settle, FormulaPhrase, TermPhrase, Variable}
-use Rattle.policy_syntax.proofs.Vocabulary.{Plain, Minus, Quoted, LastTerm, NextTerm, LastVariable, NextVariable}
-use Rattle.policy_syntax.proofs.Vocabulary.{Negation, Before, Quantified, Primary, Parenthesis, Constant, Event}
-use Rattle.policy_syntax.proofs.Vocabulary.{Comparison, term_lexeme, term_place, PolicyLexeme, Symbol, Truth, Prefix}
-use Rattle.policy_syntax.proofs.Vocabulary.{Infix, Quantifier, Sign, NameLexeme, DigitsLexeme, NegativeLexeme}
-use Rattle.policy_syntax.proofs.Vocabulary.{TextLexeme, Deep, deepen, Rule, Not, And, Or, Arrow, OpenParen, CloseParen}
-use Rattle.policy_syntax.proofs.Vocabulary.{OpenBracket, CloseBracket, Comma, Semicolon, Colon, Dot, Star}
-use Rattle.policy_syntax.proofs.StackMeanings.{Denotes, NoInfix, SomeInfix, Without, With, VariableRest, Dotted}
-use Rattle.policy_syntax.proofs.StackMeanings.{Further, NameRest, Called, Compared, TermRest, Closed, Another}
-use Rattle.policy_syntax.proofs.StackMeanings.{scoped_is, next_deep, VariableRestFits, name_rest_fold, term_rest_fold}
-use Rattle.policy_syntax.proofs.StackMeanings.{variable_rest_fold}
+use Rattle.policy_syntax.proofs.Vocabulary.{◌≡◌, ◌≢◌, ℕ, ◌+◌, Bool, true, false, true≢false, if◌then◌else◌, List, [], ◌∷◌, ◌++◌, Option, None, Some, refl, sym, ap, subst, ◌∙◌, ItemKind, StackItem}
+use Rattle.policy_syntax.proofs.Vocabulary.{Stack, stack_item, formula_on, offer, skips, settle, FormulaPhrase, TermPhrase, Variable, Plain, Minus, Quoted, LastTerm, NextTerm, LastVariable}
+use Rattle.policy_syntax.proofs.Vocabulary.{NextVariable, Negation, Before, Quantified, Primary, Parenthesis, Constant, Event, Comparison, term_lexeme, term_place, PolicyLexeme, Symbol, Truth, Prefix}
+use Rattle.policy_syntax.proofs.Vocabulary.{Infix, Quantifier, Sign, NameLexeme, DigitsLexeme, NegativeLexeme, TextLexeme, Deep, deepen, Rule, Not, And, Or, Arrow, OpenParen, CloseParen, OpenBracket}
+use Rattle.policy_syntax.proofs.Vocabulary.{CloseBracket, Comma, Semicolon, Colon, Dot, Star}
+use Rattle.policy_syntax.proofs.StackMeanings.{Denotes, NoInfix, SomeInfix, Without, With, VariableRest, Dotted, Further, NameRest, Called, Compared, TermRest, Closed, Another, scoped_is, next_deep}
+use Rattle.policy_syntax.proofs.StackMeanings.{VariableRestFits, name_rest_fold, term_rest_fold, variable_rest_fold}
 use Rattle.policy_syntax.proofs.OperandParts.{and_join, or_join, formula_join}
 use Rattle.policy_syntax.specs.machine.Automaton as automaton
 use Rattle.policy_syntax.specs.meaning.Grammar as grammar

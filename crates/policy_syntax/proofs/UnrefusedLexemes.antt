@@ -1,13 +1,8 @@
 -- One lexeme where nothing is refused: what the automaton saw of it, and the limits that it keeps.
-use Rattle.policy_syntax.proofs.Vocabulary.{◌≡◌, ℕ, ◌<◌, ◌≤◌, nat_le, nat_lt, Bool, true, false}
-use Rattle.policy_syntax.proofs.Vocabulary.{◌||◌, ◌&&◌, List, [], ◌∷◌, ◌++◌, length, Option, None}
-use Rattle.policy_syntax.proofs.Vocabulary.{Some, refl, sym, subst, ◌∙◌, arith, nat_tests, and_parts}
-use Rattle.policy_syntax.proofs.Vocabulary.{or_parts as neither, MOST_NAME_BYTES, le_from_true, ItemKind, Stack}
-use Rattle.policy_syntax.proofs.Vocabulary.{stack_item, offer, skips, is_beyond, is_over, is_wrong, limit_place}
-use Rattle.policy_syntax.proofs.Vocabulary.{nodes_after, names_after, TermPhrase, Variable, Plain, Minus, Quoted}
-use Rattle.policy_syntax.proofs.Vocabulary.{term_tree, bound, term_lexeme, term_place, PolicyLexeme, PlacedLexeme}
-use Rattle.policy_syntax.proofs.Vocabulary.{NameLexeme, DigitsLexeme, next_lexeme, IsShortTerm, MOST_LEVEL}
-use Rattle.policy_syntax.proofs.Vocabulary.{MOST_VARIABLES, SyntaxRefusal, Syntax, Limit}
+use Rattle.policy_syntax.proofs.Vocabulary.{◌≡◌, ℕ, ◌<◌, ◌≤◌, nat_le, nat_lt, Bool, true, false, ◌||◌, ◌&&◌, List, [], ◌∷◌, ◌++◌, length, Option, None, Some, refl, sym, subst, ◌∙◌, arith, nat_tests}
+use Rattle.policy_syntax.proofs.Vocabulary.{and_parts, or_parts as neither, MOST_NAME_BYTES, le_from_true, ItemKind, Stack, stack_item, offer, skips, is_beyond, is_over, is_wrong, limit_place}
+use Rattle.policy_syntax.proofs.Vocabulary.{nodes_after, names_after, TermPhrase, Variable, Plain, Minus, Quoted, term_tree, bound, term_lexeme, term_place, PolicyLexeme, PlacedLexeme, NameLexeme}
+use Rattle.policy_syntax.proofs.Vocabulary.{DigitsLexeme, next_lexeme, IsShortTerm, MOST_LEVEL, MOST_VARIABLES, SyntaxRefusal, Syntax, Limit}
 use Rattle.policy_syntax.specs.machine.Automaton.{judge}
 use Rattle.policy_syntax.proofs.StackCompletions.{skips_end}
 use Rattle.policy_syntax.proofs.JudgedLexemes.{judge_takes, judge_limits, judge_refuses, judge_skips, judge_skips_end}

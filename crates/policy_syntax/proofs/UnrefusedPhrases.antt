@@ -1,32 +1,19 @@
 -- Where nothing is refused, a phrase keeps the limits.
-use Rattle.policy_syntax.proofs.Vocabulary.{◌≡◌, ℕ, ◌+◌, ◌≤◌, Bool, true, false, List, [], ◌∷◌}
-use Rattle.policy_syntax.proofs.Vocabulary.{length, Option, None, Some, refl, sym, ap, subst, ◌∙◌, arith}
-use Rattle.policy_syntax.proofs.Vocabulary.{AllByRecursion, MOST_NAME_BYTES, Stack, stack_item, infix_on, and_on, or_on}
-use Rattle.policy_syntax.proofs.Vocabulary.{formula_on, TermPhrase, TermsPhrase, ArgumentsPhrase, VariablesPhrase}
-use Rattle.policy_syntax.proofs.Vocabulary.{IntervalPhrase, FormulaPhrase, OrPhrase, AndPhrase, InfixPhrase}
-use Rattle.policy_syntax.proofs.Vocabulary.{UnaryPhrase, Variable, Plain, Minus, Quoted, LastTerm, NextTerm}
-use Rattle.policy_syntax.proofs.Vocabulary.{LastVariable, NextVariable, OneSide, Implication, OneCase, Disjunction}
-use Rattle.policy_syntax.proofs.Vocabulary.{OnePart, Conjunction, OneOperand, Between, Negation, Before, Quantified}
-use Rattle.policy_syntax.proofs.Vocabulary.{Primary, Parenthesis, Constant, Event, Comparison, term_tree, terms_list}
-use Rattle.policy_syntax.proofs.Vocabulary.{some_terms_list, variables_list, interval_of, formula_tree, or_tree}
-use Rattle.policy_syntax.proofs.Vocabulary.{and_tree, binary_tree, unary_tree, primary_tree, infix_tree, prefix_tree}
-use Rattle.policy_syntax.proofs.Vocabulary.{quantifier_tree, sign_tree, truth_tree, scope_behind, end_lexeme}
-use Rattle.policy_syntax.proofs.Vocabulary.{term_lexeme, term_place, spell, bound, terms_fold, some_terms_fold}
-use Rattle.policy_syntax.proofs.Vocabulary.{arguments_fold, variables_fold, interval_fold, formula_fold, or_fold}
-use Rattle.policy_syntax.proofs.Vocabulary.{and_fold, infix_fold, unary_fold, primary_fold, term_fold, PlacedLexeme}
-use Rattle.policy_syntax.proofs.Vocabulary.{Symbol, Truth, Prefix, Infix, Quantifier, Sign, NameLexeme, DigitsLexeme}
-use Rattle.policy_syntax.proofs.Vocabulary.{NegativeLexeme, TextLexeme, next_lexeme, EndsFit, IsBounded, KeepsLimits}
-use Rattle.policy_syntax.proofs.Vocabulary.{IsShortName, IsShortTerm, tree_size, SyntaxTree, Not, And, Or, Arrow}
-use Rattle.policy_syntax.proofs.Vocabulary.{OpenParen, CloseParen, OpenBracket, CloseBracket, Comma, Dot, Star}
-use Rattle.policy_syntax.proofs.Vocabulary.{MOST_INTERVAL_END, MOST_NODES, Binding, Interval}
+use Rattle.policy_syntax.proofs.Vocabulary.{◌≡◌, ℕ, ◌+◌, ◌≤◌, Bool, true, false, List, [], ◌∷◌, length, Option, None, Some, refl, sym, ap, subst, ◌∙◌, arith, AllByRecursion, MOST_NAME_BYTES, Stack}
+use Rattle.policy_syntax.proofs.Vocabulary.{stack_item, infix_on, and_on, or_on, formula_on, TermPhrase, TermsPhrase, ArgumentsPhrase, VariablesPhrase, IntervalPhrase, FormulaPhrase, OrPhrase}
+use Rattle.policy_syntax.proofs.Vocabulary.{AndPhrase, InfixPhrase, UnaryPhrase, Variable, Plain, Minus, Quoted, LastTerm, NextTerm, LastVariable, NextVariable, OneSide, Implication, OneCase}
+use Rattle.policy_syntax.proofs.Vocabulary.{Disjunction, OnePart, Conjunction, OneOperand, Between, Negation, Before, Quantified, Primary, Parenthesis, Constant, Event, Comparison, term_tree}
+use Rattle.policy_syntax.proofs.Vocabulary.{terms_list, some_terms_list, variables_list, interval_of, formula_tree, or_tree, and_tree, binary_tree, unary_tree, primary_tree, infix_tree, prefix_tree}
+use Rattle.policy_syntax.proofs.Vocabulary.{quantifier_tree, sign_tree, truth_tree, scope_behind, end_lexeme, term_lexeme, term_place, spell, bound, terms_fold, some_terms_fold, arguments_fold}
+use Rattle.policy_syntax.proofs.Vocabulary.{variables_fold, interval_fold, formula_fold, or_fold, and_fold, infix_fold, unary_fold, primary_fold, term_fold, PlacedLexeme, Symbol, Truth, Prefix, Infix}
+use Rattle.policy_syntax.proofs.Vocabulary.{Quantifier, Sign, NameLexeme, DigitsLexeme, NegativeLexeme, TextLexeme, next_lexeme, EndsFit, IsBounded, KeepsLimits, IsShortName, IsShortTerm, tree_size}
+use Rattle.policy_syntax.proofs.Vocabulary.{SyntaxTree, Not, And, Or, Arrow, OpenParen, CloseParen, OpenBracket, CloseBracket, Comma, Dot, Star, MOST_INTERVAL_END, MOST_NODES, Binding, Interval}
 use Rattle.policy_syntax.specs.machine.Automaton.{judge}
 use Rattle.policy_syntax.proofs.LexemeLimits.{bound_is}
 use Rattle.policy_syntax.proofs.StackMeanings.{counted}
 use Rattle.policy_syntax.proofs.FormulaPhrases.{kept_quantifier, size_infix, size_prefix, size_quantifier}
-use Rattle.policy_syntax.proofs.StackBeginnings.{first_offered, next_offered, right_offered, skips_and, skips_arrow}
-use Rattle.policy_syntax.proofs.StackBeginnings.{skips_infix, skips_or}
-use Rattle.policy_syntax.proofs.UnrefusedLexemes.{IsTermKind, Low, TermWent, false_le, false_lt, low_out, tail_skips}
-use Rattle.policy_syntax.proofs.UnrefusedLexemes.{term_out, went}
+use Rattle.policy_syntax.proofs.StackBeginnings.{first_offered, next_offered, right_offered, skips_and, skips_arrow, skips_infix, skips_or}
+use Rattle.policy_syntax.proofs.UnrefusedLexemes.{IsTermKind, Low, TermWent, false_le, false_lt, low_out, tail_skips, term_out, went}
 use Rattle.policy_syntax.specs.machine.Automaton as automaton
 use Rattle.policy_syntax.specs.meaning.Grammar as grammar
 use Rattle.policy_syntax.specs.declared.lexemes.Sign as signs

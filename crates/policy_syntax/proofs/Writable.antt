@@ -1,21 +1,12 @@
 -- The rules of a text can be written: their names, values and variables were read from tokens.
-use Rattle.policy_syntax.proofs.Vocabulary.{◌≡◌, ℕ, ◌+◌, ◌^◌, ◌≤◌, suc, zero, Bool, true, false}
-use Rattle.policy_syntax.proofs.Vocabulary.{cond, ◌||◌, IsTrue, List, [], ◌∷◌, Option, None, Some, length}
-use Rattle.policy_syntax.proofs.Vocabulary.{map, refl, sym, ap, subst, ◌∙◌, arith, codes, AllByRecursion}
-use Rattle.policy_syntax.proofs.Vocabulary.{bytes_eq, is_word, Token, AreCut, IsProper, Mark, TermPhrase, TermsPhrase}
-use Rattle.policy_syntax.proofs.Vocabulary.{VariablesPhrase, IntervalPhrase, FormulaPhrase, OrPhrase, AndPhrase}
-use Rattle.policy_syntax.proofs.Vocabulary.{InfixPhrase, UnaryPhrase, PrimaryPhrase, RulePhrase, Variable, Plain, Minus}
-use Rattle.policy_syntax.proofs.Vocabulary.{Quoted, LastTerm, NextTerm, LastVariable, NextVariable, OneSide}
-use Rattle.policy_syntax.proofs.Vocabulary.{Implication, OneCase, Disjunction, OnePart, Conjunction, OneOperand}
-use Rattle.policy_syntax.proofs.Vocabulary.{Between, Negation, Before, Quantified, Primary, Parenthesis, Constant}
-use Rattle.policy_syntax.proofs.Vocabulary.{Event, Comparison, spell, end_lexeme, scope_behind, PolicyLexeme}
-use Rattle.policy_syntax.proofs.Vocabulary.{PlacedLexeme, Symbol, Truth, Prefix, Infix, Quantifier, Sign, NameLexeme}
-use Rattle.policy_syntax.proofs.Vocabulary.{DigitsLexeme, NegativeLexeme, TextLexeme, End, Other, lexeme_of_infix}
-use Rattle.policy_syntax.proofs.Vocabulary.{infix_of, lexeme_of_prefix, prefix_of, lexeme_of_quantifier, quantifier_of}
-use Rattle.policy_syntax.proofs.Vocabulary.{lexeme_of_truth, truth_of, lexeme_of_symbol, symbol_of, lexeme_of_word}
-use Rattle.policy_syntax.proofs.Vocabulary.{lexeme_of_mark, lexeme_of_token, AreWritableVariables, IsWritable}
-use Rattle.policy_syntax.proofs.Vocabulary.{IsWritableEnd, IsWritableInterval, IsWritableName, IsWritableRule}
-use Rattle.policy_syntax.proofs.Vocabulary.{IsWritableTerm, Binding, Interval}
+use Rattle.policy_syntax.proofs.Vocabulary.{◌≡◌, ℕ, ◌+◌, ◌^◌, ◌≤◌, suc, zero, Bool, true, false, cond, ◌||◌, IsTrue, List, [], ◌∷◌, Option, None, Some, length, map, refl, sym, ap, subst, ◌∙◌, arith}
+use Rattle.policy_syntax.proofs.Vocabulary.{codes, AllByRecursion, bytes_eq, is_word, Token, AreCut, IsProper, Mark, TermPhrase, TermsPhrase, VariablesPhrase, IntervalPhrase, FormulaPhrase, OrPhrase}
+use Rattle.policy_syntax.proofs.Vocabulary.{AndPhrase, InfixPhrase, UnaryPhrase, PrimaryPhrase, RulePhrase, Variable, Plain, Minus, Quoted, LastTerm, NextTerm, LastVariable, NextVariable, OneSide}
+use Rattle.policy_syntax.proofs.Vocabulary.{Implication, OneCase, Disjunction, OnePart, Conjunction, OneOperand, Between, Negation, Before, Quantified, Primary, Parenthesis, Constant, Event}
+use Rattle.policy_syntax.proofs.Vocabulary.{Comparison, spell, end_lexeme, scope_behind, PolicyLexeme, PlacedLexeme, Symbol, Truth, Prefix, Infix, Quantifier, Sign, NameLexeme, DigitsLexeme}
+use Rattle.policy_syntax.proofs.Vocabulary.{NegativeLexeme, TextLexeme, End, Other, lexeme_of_infix, infix_of, lexeme_of_prefix, prefix_of, lexeme_of_quantifier, quantifier_of, lexeme_of_truth}
+use Rattle.policy_syntax.proofs.Vocabulary.{truth_of, lexeme_of_symbol, symbol_of, lexeme_of_word, lexeme_of_mark, lexeme_of_token, AreWritableVariables, IsWritable, IsWritableEnd, IsWritableInterval}
+use Rattle.policy_syntax.proofs.Vocabulary.{IsWritableName, IsWritableRule, IsWritableTerm, Binding, Interval}
 use Rattle.enf_value.specs.meaning.Tokens as token
 use Rattle.enf_value.specs.declared.tokens.Mark.TheVariants as marks
 use Rattle.policy_syntax.specs.meaning.Grammar as grammar

@@ -1,19 +1,11 @@
 -- What is written for a tree is read as that tree, but for places.
-use Rattle.policy_syntax.proofs.Vocabulary.{◌≡◌, ◌≢◌, ℕ, ◌+◌, ◌<◌, ◌≤◌, pos, negsuc, suc}
-use Rattle.policy_syntax.proofs.Vocabulary.{Bool, true, false, List, [], ◌∷◌, None, Some, length, map, refl, sym}
-use Rattle.policy_syntax.proofs.Vocabulary.{ap, subst, ◌∙◌, arith, length-map, Interval, FormulaPhrase}
-use Rattle.policy_syntax.proofs.Vocabulary.{UnaryPhrase, RulePhrase, Variable, Plain, Minus, Quoted, LastTerm, NextTerm}
-use Rattle.policy_syntax.proofs.Vocabulary.{LastVariable, NextVariable, OneSide, Implication, OneCase, Disjunction}
-use Rattle.policy_syntax.proofs.Vocabulary.{OnePart, Conjunction, OneOperand, Between, Negation, Before, Quantified}
-use Rattle.policy_syntax.proofs.Vocabulary.{Primary, Parenthesis, Constant, Event, Comparison, infix_tree, prefix_tree}
-use Rattle.policy_syntax.proofs.Vocabulary.{quantifier_tree, sign_tree, spell, end_lexeme, scope_behind, PolicyLexeme}
-use Rattle.policy_syntax.proofs.Vocabulary.{PlacedLexeme, Symbol, Truth, Prefix, Infix, Quantifier, Sign, NameLexeme}
-use Rattle.policy_syntax.proofs.Vocabulary.{DigitsLexeme, TextLexeme, KeepsLimits, IsRule, SyntaxTree, PolicyRule}
-use Rattle.policy_syntax.proofs.Vocabulary.{bare_syntax_tree, bare_rule, bare_term, bare_binding, AreLow}
-use Rattle.policy_syntax.proofs.Vocabulary.{HasLexemeLevels, IsRuleReadAgain, IsWritable, IsWritableRule, Leveled}
-use Rattle.policy_syntax.proofs.Vocabulary.{enclosed_lexemes, formula_written, interval_written, kinds_written}
-use Rattle.policy_syntax.proofs.Vocabulary.{list_written, rule_written, tree_stands_alone, term_written}
-use Rattle.policy_syntax.proofs.Vocabulary.{variable_written, MOST_VARIABLES, Binding, SyntaxTerm}
+use Rattle.policy_syntax.proofs.Vocabulary.{◌≡◌, ◌≢◌, ℕ, ◌+◌, ◌<◌, ◌≤◌, pos, negsuc, suc, Bool, true, false, List, [], ◌∷◌, None, Some, length, map, refl, sym, ap, subst, ◌∙◌, arith, length-map}
+use Rattle.policy_syntax.proofs.Vocabulary.{Interval, FormulaPhrase, UnaryPhrase, RulePhrase, Variable, Plain, Minus, Quoted, LastTerm, NextTerm, LastVariable, NextVariable, OneSide, Implication}
+use Rattle.policy_syntax.proofs.Vocabulary.{OneCase, Disjunction, OnePart, Conjunction, OneOperand, Between, Negation, Before, Quantified, Primary, Parenthesis, Constant, Event, Comparison}
+use Rattle.policy_syntax.proofs.Vocabulary.{infix_tree, prefix_tree, quantifier_tree, sign_tree, spell, end_lexeme, scope_behind, PolicyLexeme, PlacedLexeme, Symbol, Truth, Prefix, Infix, Quantifier}
+use Rattle.policy_syntax.proofs.Vocabulary.{Sign, NameLexeme, DigitsLexeme, TextLexeme, KeepsLimits, IsRule, SyntaxTree, PolicyRule, bare_syntax_tree, bare_rule, bare_term, bare_binding, AreLow}
+use Rattle.policy_syntax.proofs.Vocabulary.{HasLexemeLevels, IsRuleReadAgain, IsWritable, IsWritableRule, Leveled, enclosed_lexemes, formula_written, interval_written, kinds_written, list_written}
+use Rattle.policy_syntax.proofs.Vocabulary.{rule_written, tree_stands_alone, term_written, variable_written, MOST_VARIABLES, Binding, SyntaxTerm}
 use Rattle.policy_syntax.proofs.BareTrees.{rule_anywhere}
 use Rattle.policy_syntax.proofs.Levels.{leveled, levels_of_phrases, room_is, roomy, rooms_bound}
 use Rattle.enf_data.specs.declared.values.Value.TheVariants as values

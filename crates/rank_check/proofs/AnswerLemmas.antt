@@ -1,10 +1,7 @@
 -- Plans are accepted, or refused for one reason alone.
-use Rattle.rank_check.proofs.Vocabulary.{◌≡◌, ◌⊎◌, ℕ, zero, suc, ◌<◌, ◌≤◌, IsTrue, List, Some}
-use Rattle.rank_check.proofs.Vocabulary.{refl, sym, ap, subst, inl, inr, ⊎_elim, arith, ◌∙◌, slice_get}
-use Rattle.rank_check.proofs.Vocabulary.{cases_lt, NameId, nodes, Plan, CausePlan, EventuallyPlan, UntilPlan, NextPlan}
-use Rattle.rank_check.proofs.Vocabulary.{NothingClashes, Clashes, IsOnCycle, needs_trigger, Edge, AllIsTriggered}
-use Rattle.rank_check.proofs.Vocabulary.{AreAccepted, IsAcyclic, IsUntriggeredAt, IsFirstName, IsFirstPlace, IsPlaceOf}
-use Rattle.rank_check.proofs.Vocabulary.{RefusesPlans, RankRefusal, RoleClash, Untriggered, Cyclic, NoMemory}
+use Rattle.rank_check.proofs.Vocabulary.{◌≡◌, ◌⊎◌, ℕ, zero, suc, ◌<◌, ◌≤◌, IsTrue, List, Some, refl, sym, ap, subst, inl, inr, ⊎_elim, arith, ◌∙◌, slice_get, cases_lt, NameId, nodes, Plan, CausePlan}
+use Rattle.rank_check.proofs.Vocabulary.{EventuallyPlan, UntilPlan, NextPlan, NothingClashes, Clashes, IsOnCycle, needs_trigger, Edge, AllIsTriggered, AreAccepted, IsAcyclic, IsUntriggeredAt}
+use Rattle.rank_check.proofs.Vocabulary.{IsFirstName, IsFirstPlace, IsPlaceOf, RefusesPlans, RankRefusal, RoleClash, Untriggered, Cyclic, NoMemory}
 
 -- where no name is the first, none is there
 none_below : (P : NameId → Type 0) → ((name : NameId) → IsFirstName P name → ⊥) → (most : ℕ) (name : NameId) → name.0 < most → P name → ⊥

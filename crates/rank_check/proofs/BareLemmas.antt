@@ -1,13 +1,8 @@
 -- The first place that a walk finds is that of the first node that is met before any trigger.
-use Rattle.rank_check.proofs.Vocabulary.{◌≡◌, ℕ, zero, suc, ◌+◌, ◌<◌, ◌≤◌, Bool, true, false}
-use Rattle.rank_check.proofs.Vocabulary.{IsTrue, List, [], ◌∷◌, ◌++◌, Option, None, Some, length, map, refl}
-use Rattle.rank_check.proofs.Vocabulary.{sym, ap, subst, inl, inr, ⊎_elim, arith, ◌∙◌, slice_get}
-use Rattle.rank_check.proofs.Vocabulary.{AllByRecursion, option_or, option_map, cases_lt, map-append, slice_get-map}
-use Rattle.rank_check.proofs.Vocabulary.{slice_get_read, slice_get_within, there_from_get, nodes, node_number, Plan}
-use Rattle.rank_check.proofs.Vocabulary.{CausePlan, SuppressPlan, Both, Either, TestOr, Guarded, EventuallyPlan}
-use Rattle.rank_check.proofs.Vocabulary.{AlwaysPlan, UntilPlan, NextPlan, triggers, IsNumberedPlan, needs_trigger}
-use Rattle.rank_check.proofs.Vocabulary.{IsUntriggered, AllIsTriggered, IsPlaceOf, IsFirstPlace, bare_behind, visits}
-use Rattle.rank_check.proofs.Vocabulary.{place_needing, bare_place, first_place}
+use Rattle.rank_check.proofs.Vocabulary.{◌≡◌, ℕ, zero, suc, ◌+◌, ◌<◌, ◌≤◌, Bool, true, false, IsTrue, List, [], ◌∷◌, ◌++◌, Option, None, Some, length, map, refl, sym, ap, subst, inl, inr, ⊎_elim}
+use Rattle.rank_check.proofs.Vocabulary.{arith, ◌∙◌, slice_get, AllByRecursion, option_or, option_map, cases_lt, map-append, slice_get-map, slice_get_read, slice_get_within, there_from_get, nodes}
+use Rattle.rank_check.proofs.Vocabulary.{node_number, Plan, CausePlan, SuppressPlan, Both, Either, TestOr, Guarded, EventuallyPlan, AlwaysPlan, UntilPlan, NextPlan, triggers, IsNumberedPlan}
+use Rattle.rank_check.proofs.Vocabulary.{needs_trigger, IsUntriggered, AllIsTriggered, IsPlaceOf, IsFirstPlace, bare_behind, visits, place_needing, bare_place, first_place}
 use Rattle.rank_check.proofs.VisitLemmas.{untriggered_if_bare, bare_if_untriggered}
 
 abbrev Visit : Type 0

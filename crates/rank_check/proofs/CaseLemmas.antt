@@ -1,8 +1,6 @@
 -- Edges of the small policies in which names follow from each other.
-use Rattle.rank_check.proofs.Vocabulary.{◌≡◌, ℕ, zero, suc, ◌+◌, ◌≤◌, true, List, [], ◌∷◌}
-use Rattle.rank_check.proofs.Vocabulary.{Contains, refl, sym, ap, subst, inl, ⊎_elim, arith, name_p, name_q, NameId}
-use Rattle.rank_check.proofs.Vocabulary.{Plan, CausePlan, EventuallyPlan, here, first_or_later, none_in_nil, name_r}
-use Rattle.rank_check.proofs.Vocabulary.{soon_after, in_a_row, two_in_turn, EdgesLead, IsOnCycle, Edge, EndsIn, Causes}
+use Rattle.rank_check.proofs.Vocabulary.{◌≡◌, ℕ, zero, suc, ◌+◌, ◌≤◌, true, List, [], ◌∷◌, Contains, refl, sym, ap, subst, inl, ⊎_elim, arith, name_p, name_q, NameId, Plan, CausePlan, EventuallyPlan}
+use Rattle.rank_check.proofs.Vocabulary.{here, first_or_later, none_in_nil, name_r, soon_after, in_a_row, two_in_turn, EdgesLead, IsOnCycle, Edge, EndsIn, Causes}
 use Rattle.rank_check.proofs.CauseLemmas.{caused_if_edge}
 
 pub edge_of : (plans : List Plan) (from to : NameId) → Contains plans (soon_after from to) → Edge plans from to

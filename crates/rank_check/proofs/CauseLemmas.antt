@@ -1,18 +1,12 @@
 -- The walk meets a cause below a trigger exactly where an edge leads from the one to the other.
-use Rattle.rank_check.proofs.Vocabulary.{◌≡◌, ◌⊎◌, ◌↔◌, ℕ, ◌+◌, ◌<◌, length, take, get_or}
-use Rattle.rank_check.proofs.Vocabulary.{Bool, true, false, List, [], ◌∷◌, ◌++◌, Option, None, Some, Contains}
-use Rattle.rank_check.proofs.Vocabulary.{refl, sym, subst, inl, inr, ⊎_elim, option_or, take_more}
-use Rattle.rank_check.proofs.Vocabulary.{Contains-append_left, Contains-append_right, Contains-append_cases}
-use Rattle.rank_check.proofs.Vocabulary.{Contains-push, Contains-push_cases, here, later, none_in_nil, NameId}
-use Rattle.rank_check.proofs.Vocabulary.{Contains-flat_map, nodes, Plan, CausePlan, SuppressPlan, Both, Either, TestOr}
-use Rattle.rank_check.proofs.Vocabulary.{Guarded, EventuallyPlan, AlwaysPlan, UntilPlan, NextPlan, guard_triggers}
-use Rattle.rank_check.proofs.Vocabulary.{triggers, IsCaused, caused_below, caused_at, below, begun_later, path_triggers}
-use Rattle.rank_check.proofs.Vocabulary.{IsCauseNode, IsStart, Edge, ArePlansWithinLimits, EdgeTable, HasEdge}
+use Rattle.rank_check.proofs.Vocabulary.{◌≡◌, ◌⊎◌, ◌↔◌, ℕ, ◌+◌, ◌<◌, length, take, get_or, Bool, true, false, List, [], ◌∷◌, ◌++◌, Option, None, Some, Contains, refl, sym, subst, inl, inr, ⊎_elim}
+use Rattle.rank_check.proofs.Vocabulary.{option_or, take_more, Contains-append_left, Contains-append_right, Contains-append_cases, Contains-push, Contains-push_cases, here, later, none_in_nil, NameId}
+use Rattle.rank_check.proofs.Vocabulary.{Contains-flat_map, nodes, Plan, CausePlan, SuppressPlan, Both, Either, TestOr, Guarded, EventuallyPlan, AlwaysPlan, UntilPlan, NextPlan, guard_triggers}
+use Rattle.rank_check.proofs.Vocabulary.{triggers, IsCaused, caused_below, caused_at, below, begun_later, path_triggers, IsCauseNode, IsStart, Edge, ArePlansWithinLimits, EdgeTable, HasEdge}
 use Rattle.rank_check.proofs.Vocabulary.{AddsEdges, in_one, in_two, itself as root, bare_behind, met_behind, Causes}
 use Rattle.rank_check.proofs.MatrixLemmas.{both, same}
 use Rattle.rank_check.proofs.PlanLemmas.{by_below, deeper, nodes_in, end_in, guard_in}
-use Rattle.rank_check.proofs.StartLemmas.{From, Begun, is_below, at_end, one_more, one_less, begun_here, begun_below}
-use Rattle.rank_check.proofs.StartLemmas.{begun_cases}
+use Rattle.rank_check.proofs.StartLemmas.{From, Begun, is_below, at_end, one_more, one_less, begun_here, begun_below, begun_cases}
 
 -- a path to a cause, and one on which the first triggers have a name
 abbrev pub Reaches : (to : NameId) → List Plan → Plan → Type 0

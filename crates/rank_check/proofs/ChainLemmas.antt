@@ -1,6 +1,5 @@
 -- Chains of edges.
-use Rattle.rank_check.proofs.Vocabulary.{◌≡◌, ℕ, zero, suc, ◌+◌, ◌≤◌, arith, refl, subst, NameId}
-use Rattle.rank_check.proofs.Vocabulary.{EdgesLead, IsOnCycle, IsRank}
+use Rattle.rank_check.proofs.Vocabulary.{◌≡◌, ℕ, zero, suc, ◌+◌, ◌≤◌, arith, refl, subst, NameId, EdgesLead, IsOnCycle, IsRank}
 
 module _ (E : NameId → NameId → Type 0) where
   -- one chain after another

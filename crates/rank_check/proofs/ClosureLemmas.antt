@@ -1,7 +1,6 @@
 -- Edges that are put in wherever a chain of edges leads.
-use Rattle.rank_check.proofs.Vocabulary.{◌≡◌, ◌⊎◌, ℕ, zero, suc, ◌+◌, ◌<◌, ◌≤◌, sym, subst}
-use Rattle.rank_check.proofs.Vocabulary.{inl, inr, ⊎_elim, arith, ◌∙◌, cases_lt, NameId, same_name, EdgesLead}
-use Rattle.rank_check.proofs.Vocabulary.{Reaches, EdgeTable, AddsEdges, IsClosure, HasEdge}
+use Rattle.rank_check.proofs.Vocabulary.{◌≡◌, ◌⊎◌, ℕ, zero, suc, ◌+◌, ◌<◌, ◌≤◌, sym, subst, inl, inr, ⊎_elim, arith, ◌∙◌, cases_lt, NameId, same_name, EdgesLead, Reaches, EdgeTable, AddsEdges}
+use Rattle.rank_check.proofs.Vocabulary.{IsClosure, HasEdge}
 
 -- what is below the next number is below this one, or there
 pub below_or_there : (name there : NameId) → name.0 < there.0 + 1 → (name.0 < there.0) ⊎ (there ≡ name)

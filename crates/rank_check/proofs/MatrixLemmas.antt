@@ -1,10 +1,7 @@
 -- Edges that are put into a table.
-use Rattle.rank_check.proofs.Vocabulary.{◌≡◌, ◌⊎◌, ℕ, ◌+◌, ◌*◌, ◌<◌, Bool, true, false}
-use Rattle.rank_check.proofs.Vocabulary.{IsTrue, List, [], ◌∷◌, ◌++◌, Contains, length, take, get_or, set}
-use Rattle.rank_check.proofs.Vocabulary.{refl, sym, ap, subst, inl, inr, ⊎_elim, ◌∙◌, cases_eq}
-use Rattle.rank_check.proofs.Vocabulary.{get_or-set_other, take_more, Contains-append_left, Contains-push}
-use Rattle.rank_check.proofs.Vocabulary.{Contains-push_cases, get_or-set_at, mul-add-lt, same_from_place, NameId}
-use Rattle.rank_check.proofs.Vocabulary.{EdgeTable, HasEdge, AddsEdges}
+use Rattle.rank_check.proofs.Vocabulary.{◌≡◌, ◌⊎◌, ℕ, ◌+◌, ◌*◌, ◌<◌, Bool, true, false, IsTrue, List, [], ◌∷◌, ◌++◌, Contains, length, take, get_or, set, refl, sym, ap, subst, inl, inr, ⊎_elim, ◌∙◌}
+use Rattle.rank_check.proofs.Vocabulary.{cases_eq, get_or-set_other, take_more, Contains-append_left, Contains-push, Contains-push_cases, get_or-set_at, mul-add-lt, same_from_place, NameId, EdgeTable}
+use Rattle.rank_check.proofs.Vocabulary.{HasEdge, AddsEdges}
 
 -- one edge, by its mark
 pub marked : (width : ℕ) (marks : List Bool) (from to : NameId) → length marks ≡ width * width → from.0 < width → to.0 < width

@@ -1,12 +1,8 @@
 -- What is owed is not lost while a trace can be continued well.
-use Rattle.rank_check.proofs.Vocabulary.{◌≡◌, ℕ, IsTrue, List, map, Option, None, Some, refl, sym, ◌∙◌}
-use Rattle.rank_check.proofs.Vocabulary.{AllByRecursion, find, false≢true, none-some, AllByRecursion-contains}
-use Rattle.rank_check.proofs.Vocabulary.{there_from_get, Step, VarId, Formula, Good, NumberIsPlace, PlansStandIn}
-use Rattle.rank_check.proofs.Vocabulary.{has_deadline, has_future, has_number, is_future, node_in, nodes_of}
-use Rattle.rank_check.proofs.Vocabulary.{formula_for, Plan, CausePlan, SuppressPlan, Both, Either, TestOr, Guarded}
-use Rattle.rank_check.proofs.Vocabulary.{EventuallyPlan, AlwaysPlan, UntilPlan, NextPlan, IsWellFormed, first_node}
-use Rattle.rank_check.proofs.Vocabulary.{DeadlinesAreNotLost, GoesWell, LookBack, OwedNodesAreNotLost, OwedNodesHold}
-use Rattle.rank_check.proofs.Vocabulary.{RootsAreNotLost, RootsHold}
+use Rattle.rank_check.proofs.Vocabulary.{◌≡◌, ℕ, IsTrue, List, map, Option, None, Some, refl, sym, ◌∙◌, AllByRecursion, find, false≢true, none-some, AllByRecursion-contains, there_from_get, Step}
+use Rattle.rank_check.proofs.Vocabulary.{VarId, Formula, Good, NumberIsPlace, PlansStandIn, has_deadline, has_future, has_number, is_future, node_in, nodes_of, formula_for, Plan, CausePlan}
+use Rattle.rank_check.proofs.Vocabulary.{SuppressPlan, Both, Either, TestOr, Guarded, EventuallyPlan, AlwaysPlan, UntilPlan, NextPlan, IsWellFormed, first_node, DeadlinesAreNotLost, GoesWell}
+use Rattle.rank_check.proofs.Vocabulary.{LookBack, OwedNodesAreNotLost, OwedNodesHold, RootsAreNotLost, RootsHold}
 use Rattle.std.proofs.Common.{slice_get}
 
 -- ---- nodes

@@ -1,17 +1,10 @@
 -- Under transparent plans what is owed holds wherever a trace goes on to satisfy the plans.
-use Rattle.rank_check.proofs.Vocabulary.{◌≡◌, ◌⊎◌, ℕ, zero, suc, ◌<◌, ◌≤◌, Bool, true, false}
-use Rattle.rank_check.proofs.Vocabulary.{not, ◌&&◌, ◌||◌, IsTrue, List, [], ◌∷◌, ◌++◌, length, map}
-use Rattle.rank_check.proofs.Vocabulary.{Some, ⊎_elim, refl, sym, subst, arith, le_refl, length-append, list_all}
-use Rattle.rank_check.proofs.Vocabulary.{list_any, false≢true, All-head, All-nil, All-tail, list_all-append}
-use Rattle.rank_check.proofs.Vocabulary.{list_any-append, none-some, same_Some, IsTrace, Valuation, no_values}
-use Rattle.rank_check.proofs.Vocabulary.{with_values, Step, cases_le, both_true as both, not_both as never, Formula}
-use Rattle.rank_check.proofs.Vocabulary.{Sat, IsStable, Satisfies, IsLost, IsAhead, IsOwed, IsStillLost, LeadsThrough}
-use Rattle.rank_check.proofs.Vocabulary.{LeadsTo, Obligation, obligation, has_future, is_future, nodes, formula_for}
-use Rattle.rank_check.proofs.Vocabulary.{Plan, CausePlan, SuppressPlan, Both, Either, TestOr, Guarded, EventuallyPlan}
-use Rattle.rank_check.proofs.Vocabulary.{AlwaysPlan, UntilPlan, NextPlan, OwedStaysOwed, OwedNodesHold, RootsHold}
-use Rattle.rank_check.proofs.Vocabulary.{is_transparent, is_transparent_at}
-use Rattle.std.proofs.Common.{slice_get}
-use Rattle.std.proofs.Common.{append-nil}
+use Rattle.rank_check.proofs.Vocabulary.{◌≡◌, ◌⊎◌, ℕ, zero, suc, ◌<◌, ◌≤◌, Bool, true, false, not, ◌&&◌, ◌||◌, IsTrue, List, [], ◌∷◌, ◌++◌, length, map, Some, ⊎_elim, refl, sym, subst, arith, le_refl}
+use Rattle.rank_check.proofs.Vocabulary.{length-append, list_all, list_any, false≢true, All-head, All-nil, All-tail, list_all-append, list_any-append, none-some, same_Some, IsTrace, Valuation}
+use Rattle.rank_check.proofs.Vocabulary.{no_values, with_values, Step, cases_le, both_true as both, not_both as never, Formula, Sat, IsStable, Satisfies, IsLost, IsAhead, IsOwed, IsStillLost}
+use Rattle.rank_check.proofs.Vocabulary.{LeadsThrough, LeadsTo, Obligation, obligation, has_future, is_future, nodes, formula_for, Plan, CausePlan, SuppressPlan, Both, Either, TestOr, Guarded}
+use Rattle.rank_check.proofs.Vocabulary.{EventuallyPlan, AlwaysPlan, UntilPlan, NextPlan, OwedStaysOwed, OwedNodesHold, RootsHold, is_transparent, is_transparent_at}
+use Rattle.std.proofs.Common.{slice_get, append-nil}
 
 -- ---- tests
 

@@ -1,10 +1,7 @@
 -- Induction over plans by what stands directly below a node, and what that says of nodes and paths.
-use Rattle.rank_check.proofs.Vocabulary.{◌≡◌, ◌⊎◌, List, [], ◌∷◌, ◌++◌, Option, None, Some}
-use Rattle.rank_check.proofs.Vocabulary.{Contains, refl, sym, subst, ◌∙◌, inl, inr, ⊎_elim}
-use Rattle.rank_check.proofs.Vocabulary.{Contains-append_cases, option_or, here, later, first_or_later, none_in_nil}
-use Rattle.rank_check.proofs.Vocabulary.{NameId, nodes, Plan, CausePlan, SuppressPlan, Both, Either, TestOr, Guarded}
-use Rattle.rank_check.proofs.Vocabulary.{EventuallyPlan, AlwaysPlan, UntilPlan, NextPlan, guard_triggers, below}
-use Rattle.rank_check.proofs.Vocabulary.{path_triggers, IsPath, itself as root, in_one, in_two, from_one, from_two}
+use Rattle.rank_check.proofs.Vocabulary.{◌≡◌, ◌⊎◌, List, [], ◌∷◌, ◌++◌, Option, None, Some, Contains, refl, sym, subst, ◌∙◌, inl, inr, ⊎_elim, Contains-append_cases, option_or, here, later}
+use Rattle.rank_check.proofs.Vocabulary.{first_or_later, none_in_nil, NameId, nodes, Plan, CausePlan, SuppressPlan, Both, Either, TestOr, Guarded, EventuallyPlan, AlwaysPlan, UntilPlan, NextPlan}
+use Rattle.rank_check.proofs.Vocabulary.{guard_triggers, below, path_triggers, IsPath, itself as root, in_one, in_two, from_one, from_two}
 
 -- what holds of a plan where it holds of each plan directly below
 pub by_below : (P : Plan → Type 0) → ((plan : Plan) → ((next : Plan) → Contains (below plan) next → P next) → P plan) → (plan : Plan) → P plan

@@ -1,12 +1,7 @@
 -- Ranks by rounds, and that they end: a chain of as many edges as there are names returns to one of them.
-use Rattle.rank_check.proofs.Vocabulary.{◌≡◌, ◌⊎◌, ℕ, zero, suc, ◌+◌, ◌<◌, ◌≤◌, Bool, true}
-use Rattle.rank_check.proofs.Vocabulary.{false, eqb, ◌||◌, List, [], ◌∷◌, ◌++◌, length, get_or, replicate}
-use Rattle.rank_check.proofs.Vocabulary.{set, take, refl, sym, ap, subst, inl, inr, ⊎_elim, arith, ◌∙◌}
-use Rattle.rank_check.proofs.Vocabulary.{AllByRecursion, list_any, cases_lt, eqb-true, ne_eqb, get_or-set_at}
-use Rattle.rank_check.proofs.Vocabulary.{take-append_seam, get_or-replicate, get_or-set_other, get_or_past}
-use Rattle.rank_check.proofs.Vocabulary.{length-replicate, IsDistinct-cons, length-le_from_distinct_below, NameId}
-use Rattle.rank_check.proofs.Vocabulary.{same_name, EdgesLead, IsOnCycle, EndsIn, IsRank, IsRankWithin, greatest}
-use Rattle.rank_check.proofs.Vocabulary.{rank_in}
+use Rattle.rank_check.proofs.Vocabulary.{◌≡◌, ◌⊎◌, ℕ, zero, suc, ◌+◌, ◌<◌, ◌≤◌, Bool, true, false, eqb, ◌||◌, List, [], ◌∷◌, ◌++◌, length, get_or, replicate, set, take, refl, sym, ap, subst, inl, inr}
+use Rattle.rank_check.proofs.Vocabulary.{⊎_elim, arith, ◌∙◌, AllByRecursion, list_any, cases_lt, eqb-true, ne_eqb, get_or-set_at, take-append_seam, get_or-replicate, get_or-set_other, get_or_past}
+use Rattle.rank_check.proofs.Vocabulary.{length-replicate, IsDistinct-cons, length-le_from_distinct_below, NameId, same_name, EdgesLead, IsOnCycle, EndsIn, IsRank, IsRankWithin, greatest, rank_in}
 use Rattle.std.specs.List.{IsDistinct}
 use Rattle.rank_check.proofs.ClosureLemmas.{below_or_there}
 

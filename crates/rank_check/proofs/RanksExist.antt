@@ -1,7 +1,5 @@
 -- Where a test tells the edges and no name is on a cycle, the rank of a name is found by looking.
-use Rattle.rank_check.proofs.Vocabulary.{◌≡◌, ◌⊎◌, ℕ, zero, suc, ◌+◌, ◌<◌, ◌≤◌, Bool, true}
-use Rattle.rank_check.proofs.Vocabulary.{false, IsTrue, refl, sym, subst, inl, inr, ⊎_elim, arith, cases_lt, NameId}
-use Rattle.rank_check.proofs.Vocabulary.{EndsIn, IsRank, IsOnCycle}
+use Rattle.rank_check.proofs.Vocabulary.{◌≡◌, ◌⊎◌, ℕ, zero, suc, ◌+◌, ◌<◌, ◌≤◌, Bool, true, false, IsTrue, refl, sym, subst, inl, inr, ⊎_elim, arith, cases_lt, NameId, EndsIn, IsRank, IsOnCycle}
 use Rattle.rank_check.proofs.ClosureLemmas.{below_or_there}
 use Rattle.rank_check.proofs.RankLemmas.{short}
 

@@ -1,13 +1,8 @@
 -- Marks and roles by name.
-use Rattle.rank_check.proofs.Vocabulary.{◌≡◌, ◌↔◌, ℕ, ◌+◌, ◌<◌, ◌≤◌, Bool, true, false}
-use Rattle.rank_check.proofs.Vocabulary.{IsTrue, List, [], ◌∷◌, ◌++◌, None, Some, Contains, length, take}
-use Rattle.rank_check.proofs.Vocabulary.{get_or, set, refl, sym, ap, subst, inl, inr, ⊎_elim, arith, cases_lt}
-use Rattle.rank_check.proofs.Vocabulary.{cases_eq, get_or-set_at, get_or-set_other, get_or_append_left, get_or_past}
-use Rattle.rank_check.proofs.Vocabulary.{take_more, get_or-append_seam, Contains-append_left, Contains-push}
-use Rattle.rank_check.proofs.Vocabulary.{Contains-push_cases, get_or_from_slice_get, slice_get_read, NameId, Plan}
-use Rattle.rank_check.proofs.Vocabulary.{NothingClashes, Clashes, IsCaused, IsSuppressed, Role, Free, Caused}
-use Rattle.rank_check.proofs.Vocabulary.{Suppressed, role_in, NameHasRole, IsFirstName, role_for, AreNamesBelow}
-use Rattle.rank_check.proofs.Vocabulary.{IsMarkedName}
+use Rattle.rank_check.proofs.Vocabulary.{◌≡◌, ◌↔◌, ℕ, ◌+◌, ◌<◌, ◌≤◌, Bool, true, false, IsTrue, List, [], ◌∷◌, ◌++◌, None, Some, Contains, length, take, get_or, set, refl, sym, ap, subst, inl, inr}
+use Rattle.rank_check.proofs.Vocabulary.{⊎_elim, arith, cases_lt, cases_eq, get_or-set_at, get_or-set_other, get_or_append_left, get_or_past, take_more, get_or-append_seam, Contains-append_left}
+use Rattle.rank_check.proofs.Vocabulary.{Contains-push, Contains-push_cases, get_or_from_slice_get, slice_get_read, NameId, Plan, NothingClashes, Clashes, IsCaused, IsSuppressed, Role, Free, Caused}
+use Rattle.rank_check.proofs.Vocabulary.{Suppressed, role_in, NameHasRole, IsFirstName, role_for, AreNamesBelow, IsMarkedName}
 
 -- the marks are those of the names of a list
 abbrev pub Tells : List Bool → (NameId → Type 0) → Type 0

@@ -1,7 +1,6 @@
 -- Paths from the starts of a plan, node by node.
-use Rattle.rank_check.proofs.Vocabulary.{◌≡◌, ◌⊎◌, List, [], ◌∷◌, Contains, refl, sym, subst, inl}
-use Rattle.rank_check.proofs.Vocabulary.{inr, ⊎_elim, here, first_or_later, none_in_nil, nodes, Plan, AlwaysPlan}
-use Rattle.rank_check.proofs.Vocabulary.{UntilPlan, itself as root, below, begun_later, IsPath}
+use Rattle.rank_check.proofs.Vocabulary.{◌≡◌, ◌⊎◌, List, [], ◌∷◌, Contains, refl, sym, subst, inl, inr, ⊎_elim, here, first_or_later, none_in_nil, nodes, Plan, AlwaysPlan, UntilPlan, itself as root}
+use Rattle.rank_check.proofs.Vocabulary.{below, begun_later, IsPath}
 use Rattle.rank_check.proofs.PlanLemmas.{within, deeper}
 
 -- a path with the property from the plan itself

@@ -1,10 +1,7 @@
 -- Greatest and least numbers of joined lists, and surveys of joined nodes.
-use Rattle.rank_check.proofs.Vocabulary.{◌≡◌, ℕ, zero, suc, get_or, take, ◌<◌, Bool, ◌+◌, ◌*◌}
-use Rattle.rank_check.proofs.Vocabulary.{◌-◌, ◌≤◌, max, min, true, false, cond, List, [], ◌∷◌, ◌++◌}
-use Rattle.rank_check.proofs.Vocabulary.{length, map, arith, ap, sym, subst, ◌∙◌, length-append, AllByRecursion}
-use Rattle.rank_check.proofs.Vocabulary.{filter, flat_map, flat_map-append, append-nil, map-append, map_more}
-use Rattle.rank_check.proofs.Vocabulary.{filter-append, has_deadline, nodes, window_end, Plan, UntilPlan, caused_at}
-use Rattle.rank_check.proofs.Vocabulary.{plan_of, greatest, least_with, rank_in, class_in, IsSurvey, Survey}
+use Rattle.rank_check.proofs.Vocabulary.{◌≡◌, ℕ, zero, suc, get_or, take, ◌<◌, Bool, ◌+◌, ◌*◌, ◌-◌, ◌≤◌, max, min, true, false, cond, List, [], ◌∷◌, ◌++◌, length, map, arith, ap, sym, subst, ◌∙◌}
+use Rattle.rank_check.proofs.Vocabulary.{length-append, AllByRecursion, filter, flat_map, flat_map-append, append-nil, map-append, map_more, filter-append, has_deadline, nodes, window_end, Plan}
+use Rattle.rank_check.proofs.Vocabulary.{UntilPlan, caused_at, plan_of, greatest, least_with, rank_in, class_in, IsSurvey, Survey}
 use Rattle.plan_terms.specs.declared.plans.Plan.{Plan as Stored}
 
 pub greatest-append : (xs ys : List ℕ) → greatest (xs ++ ys) ≡ max (greatest xs) (greatest ys)

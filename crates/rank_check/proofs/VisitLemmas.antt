@@ -1,15 +1,10 @@
 -- The walk meets a node without a trigger exactly where a path from a start leads to it on which no guard has triggers.
-use Rattle.rank_check.proofs.Vocabulary.{◌≡◌, ◌⊎◌, Bool, true, IsTrue, List, [], ◌∷◌, ◌++◌}
-use Rattle.rank_check.proofs.Vocabulary.{Option, None, Some, Contains, refl, sym, ap, subst, inl, inr, ⊎_elim}
-use Rattle.rank_check.proofs.Vocabulary.{option_or, Contains-append_left, Contains-append_right, Contains-append_cases}
-use Rattle.rank_check.proofs.Vocabulary.{here, later, first_or_later, none_in_nil, NameId, Plan, CausePlan}
-use Rattle.rank_check.proofs.Vocabulary.{SuppressPlan, Both, Either, TestOr, Guarded, EventuallyPlan, AlwaysPlan}
-use Rattle.rank_check.proofs.Vocabulary.{UntilPlan, NextPlan, guard_triggers, triggers, below, begun_later}
-use Rattle.rank_check.proofs.Vocabulary.{path_triggers, needs_trigger, IsPath, IsUntriggered, in_one, in_two}
-use Rattle.rank_check.proofs.Vocabulary.{bare_behind, visits}
+use Rattle.rank_check.proofs.Vocabulary.{◌≡◌, ◌⊎◌, Bool, true, IsTrue, List, [], ◌∷◌, ◌++◌, Option, None, Some, Contains, refl, sym, ap, subst, inl, inr, ⊎_elim, option_or, Contains-append_left}
+use Rattle.rank_check.proofs.Vocabulary.{Contains-append_right, Contains-append_cases, here, later, first_or_later, none_in_nil, NameId, Plan, CausePlan, SuppressPlan, Both, Either, TestOr, Guarded}
+use Rattle.rank_check.proofs.Vocabulary.{EventuallyPlan, AlwaysPlan, UntilPlan, NextPlan, guard_triggers, triggers, below, begun_later, path_triggers, needs_trigger, IsPath, IsUntriggered, in_one}
+use Rattle.rank_check.proofs.Vocabulary.{in_two, bare_behind, visits}
 use Rattle.rank_check.proofs.PlanLemmas.{by_below}
-use Rattle.rank_check.proofs.StartLemmas.{From, Begun, Behind, is_below, at_end, one_more, one_less, begun_here}
-use Rattle.rank_check.proofs.StartLemmas.{begun_below, begun_cases}
+use Rattle.rank_check.proofs.StartLemmas.{From, Begun, Behind, is_below, at_end, one_more, one_less, begun_here, begun_below, begun_cases}
 
 abbrev Visit : Type 0
 Visit = Plan × Bool

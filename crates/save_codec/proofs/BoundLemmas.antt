@@ -1,11 +1,8 @@
 -- Values that are bound to the variables in scope, and the instance that has them.
-use Rattle.save_codec.proofs.Vocabulary.{◌≡◌, ◌++◌, ◌∷◌, [], suc, List, Option, Some, None, cond}
-use Rattle.save_codec.proofs.Vocabulary.{IsSome, length, map, refl, sym, ap, subst, ◌∙◌, arith, append_assoc}
-use Rattle.save_codec.proofs.Vocabulary.{by_order, find, put, IsStrictlySortedBy, is_eq, ordering_reverse, Less}
-use Rattle.save_codec.proofs.Vocabulary.{Greater, append-nil, map-append, sorted_head, sorted_tail, Valuation, bindings}
-use Rattle.save_codec.proofs.Vocabulary.{no_values, value_at, variable_cmp, variable_cmp_total, VarId, Value}
-use Rattle.save_codec.proofs.Vocabulary.{all_at_middle, nothing_bound, Sort, with_value, filled_from_row, with_new}
-use Rattle.save_codec.proofs.Vocabulary.{cell_some, filled_outside, filled_unbound, FitsScope, values_in, FitTold}
+use Rattle.save_codec.proofs.Vocabulary.{◌≡◌, ◌++◌, ◌∷◌, [], suc, List, Option, Some, None, cond, IsSome, length, map, refl, sym, ap, subst, ◌∙◌, arith, append_assoc, by_order, find, put}
+use Rattle.save_codec.proofs.Vocabulary.{IsStrictlySortedBy, is_eq, ordering_reverse, Less, Greater, append-nil, map-append, sorted_head, sorted_tail, Valuation, bindings, no_values, value_at}
+use Rattle.save_codec.proofs.Vocabulary.{variable_cmp, variable_cmp_total, VarId, Value, all_at_middle, nothing_bound, Sort, with_value, filled_from_row, with_new, cell_some, filled_outside}
+use Rattle.save_codec.proofs.Vocabulary.{filled_unbound, FitsScope, values_in, FitTold}
 use Rattle.std.specs.FinMap as finite
 
 abbrev pub Binding : Type 0

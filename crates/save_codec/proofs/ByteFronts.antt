@@ -1,10 +1,7 @@
 -- Numbers and values at the front of bytes, and what is after them.
-use Rattle.save_codec.proofs.Vocabulary.{◌≡◌, ◌≢◌, refl, ℕ, zero, suc, pos, ◌-◌, ◌+◌, ◌<◌}
-use Rattle.save_codec.proofs.Vocabulary.{◌^◌, List, [], ◌∷◌, ◌++◌, inl, inr, get_or, length, take, drop}
-use Rattle.save_codec.proofs.Vocabulary.{slice_index, decimal, sym, ap, ◌∙◌, arith, zero-add, digit_value}
-use Rattle.save_codec.proofs.Vocabulary.{AllDigits, digits_value, nat_tests, decimal-digits_value, decimal_is_IsNumeral}
-use Rattle.save_codec.proofs.Vocabulary.{decimal_nonempty, first_decimal, length-decimal-le_succ, IsNumeralModel}
-use Rattle.save_codec.proofs.Vocabulary.{IsNoDigit, IsNumberToken, ValueTokenAt, PrintedIsToken, Num, behind_front}
+use Rattle.save_codec.proofs.Vocabulary.{◌≡◌, ◌≢◌, refl, ℕ, zero, suc, pos, ◌-◌, ◌+◌, ◌<◌, ◌^◌, List, [], ◌∷◌, ◌++◌, inl, inr, get_or, length, take, drop, slice_index, decimal, sym, ap, ◌∙◌, arith}
+use Rattle.save_codec.proofs.Vocabulary.{zero-add, digit_value, AllDigits, digits_value, nat_tests, decimal-digits_value, decimal_is_IsNumeral, decimal_nonempty, first_decimal, length-decimal-le_succ}
+use Rattle.save_codec.proofs.Vocabulary.{IsNumeralModel, IsNoDigit, IsNumberToken, ValueTokenAt, PrintedIsToken, Num, behind_front}
 
 -- no number begins with a minus
 digit_is_no_minus : (x : ℕ) → digit_value x < 10 → x ≢ 45

@@ -1,9 +1,6 @@
 -- A text of the form has no first line that has not the form, and other bytes have one such line at most.
-use Rattle.save_codec.proofs.Vocabulary.{◌≡◌, ◌++◌, ◌∷◌, ◌<◌, ◌^◌, [], ℕ, zero, suc, List}
-use Rattle.save_codec.proofs.Vocabulary.{Option, Some, None, IsTrue, length, refl, sym, ap, subst, ◌∙◌}
-use Rattle.save_codec.proofs.Vocabulary.{append_assoc, OneTokenAtPlace, PrintedIsToken, LinesFollow, IsTextOfLines}
-use Rattle.save_codec.proofs.Vocabulary.{line_follows, is_end_line, last_line, IsLine, line_text, lines_text, IsFault}
-use Rattle.save_codec.proofs.Vocabulary.{Line}
+use Rattle.save_codec.proofs.Vocabulary.{◌≡◌, ◌++◌, ◌∷◌, ◌<◌, ◌^◌, [], ℕ, zero, suc, List, Option, Some, None, IsTrue, length, refl, sym, ap, subst, ◌∙◌, append_assoc, OneTokenAtPlace, PrintedIsToken}
+use Rattle.save_codec.proofs.Vocabulary.{LinesFollow, IsTextOfLines, line_follows, is_end_line, last_line, IsLine, line_text, lines_text, IsFault, Line}
 use Rattle.save_codec.proofs.OneText.{head_small, none_before, one_head, one_line}
 
 -- no line of the form follows, and the text does not end as it may

@@ -1,9 +1,7 @@
 -- Lines that follow one another.
-use Rattle.save_codec.proofs.Vocabulary.{◌≡◌, ◌++◌, ◌∷◌, [], suc, ℕ, Result, Err, IfErr, List, Option}
-use Rattle.save_codec.proofs.Vocabulary.{Some, IsTrue, refl, sym, ap, subst, ◌∙◌, arith, append_assoc, append-nil}
-use Rattle.save_codec.proofs.Vocabulary.{flat_map-append, LinesFollow, line_follows, last_line, IsLine, head_text}
-use Rattle.save_codec.proofs.Vocabulary.{line_text, lines_text, IsFault, IsStop, IsFormRefusal, StateRefusal, Syntax}
-use Rattle.save_codec.proofs.Vocabulary.{OtherPolicy, Inconsistent, NoMemory, Line}
+use Rattle.save_codec.proofs.Vocabulary.{◌≡◌, ◌++◌, ◌∷◌, [], suc, ℕ, Result, Err, IfErr, List, Option, Some, IsTrue, refl, sym, ap, subst, ◌∙◌, arith, append_assoc, append-nil, flat_map-append}
+use Rattle.save_codec.proofs.Vocabulary.{LinesFollow, line_follows, last_line, IsLine, head_text, line_text, lines_text, IsFault, IsStop, IsFormRefusal, StateRefusal, Syntax, OtherPolicy}
+use Rattle.save_codec.proofs.Vocabulary.{Inconsistent, NoMemory, Line}
 
 pub last_line_behind : (before : Option Line) (lines : List Line) (line : Line) → last_line before (lines ++ line ∷ []) ≡ Some line
 last_line_behind before [] line = refl

@@ -1,14 +1,9 @@
 -- Instances, by what is known of rules.
-use Rattle.save_codec.proofs.Vocabulary.{◌≡◌, ◌↔◌, ◌+◌, ◌<◌, ◌≤◌, ◌^◌, [], ℕ, List}
-use Rattle.save_codec.proofs.Vocabulary.{Option, Some, None, Bool, true, false, cond, slice_get, refl, sym, ap, subst}
-use Rattle.save_codec.proofs.Vocabulary.{◌∙◌, arith, AllByRecursion, IsStrictlySortedBy, option_map, none-some}
-use Rattle.save_codec.proofs.Vocabulary.{same_Some, AllByRecursion-contains, there_from_get, no_values, variable_cmp}
-use Rattle.save_codec.proofs.Vocabulary.{VarId, Value, nothing_rises, Sort, filled_from_row, is_future, Plan, plan_of}
-use Rattle.save_codec.proofs.Vocabulary.{FoundHasRisingScope, IsScopedPlan, scoped_at, FitsScope, only_future}
-use Rattle.save_codec.proofs.Vocabulary.{future_in, scoped_in_plan, CanWait, first_end, node_with_scope, Instance}
-use Rattle.save_codec.proofs.Vocabulary.{FutureNode, DueFits, RuleTells, SaveSetting, IsInstanceOf, IsJudge, KnowsJust}
-use Rattle.save_codec.proofs.Vocabulary.{Knows, values_in, FitTold, PlanTells, Judge, MOST_STATE_TIME, Due, DueLine}
-use Rattle.save_codec.proofs.Vocabulary.{Known}
+use Rattle.save_codec.proofs.Vocabulary.{◌≡◌, ◌↔◌, ◌+◌, ◌<◌, ◌≤◌, ◌^◌, [], ℕ, List, Option, Some, None, Bool, true, false, cond, slice_get, refl, sym, ap, subst, ◌∙◌, arith, AllByRecursion}
+use Rattle.save_codec.proofs.Vocabulary.{IsStrictlySortedBy, option_map, none-some, same_Some, AllByRecursion-contains, there_from_get, no_values, variable_cmp, VarId, Value, nothing_rises, Sort}
+use Rattle.save_codec.proofs.Vocabulary.{filled_from_row, is_future, Plan, plan_of, FoundHasRisingScope, IsScopedPlan, scoped_at, FitsScope, only_future, future_in, scoped_in_plan, CanWait, first_end}
+use Rattle.save_codec.proofs.Vocabulary.{node_with_scope, Instance, FutureNode, DueFits, RuleTells, SaveSetting, IsInstanceOf, IsJudge, KnowsJust, Knows, values_in, FitTold, PlanTells, Judge}
+use Rattle.save_codec.proofs.Vocabulary.{MOST_STATE_TIME, Due, DueLine, Known}
 use Rattle.save_codec.proofs.BoundLemmas.{bound_fits, bound_values, fit_long}
 use Rattle.save_codec.proofs.JudgeLemmas.{fit_as}
 use Rattle.save_codec.proofs.KnowLemmas.{rule_known}

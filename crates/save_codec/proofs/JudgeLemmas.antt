@@ -1,15 +1,9 @@
 -- Rows, by what is known of windows.
-use Rattle.save_codec.proofs.Vocabulary.{◌≡◌, ◌↔◌, ◌++◌, ◌∷◌, ◌+◌, ◌<◌, [], ℕ, zero}
-use Rattle.save_codec.proofs.Vocabulary.{suc, List, Option, Some, None, Bool, true, false, All, IsTrue, length, take}
-use Rattle.save_codec.proofs.Vocabulary.{map, slice_get, refl, sym, ap, subst, ◌∙◌, arith, length-append}
-use Rattle.save_codec.proofs.Vocabulary.{append_assoc, AllByRecursion, option_map, append-nil, take-append-le, take_at}
-use Rattle.save_codec.proofs.Vocabulary.{All-contains, get_or_from_slice_get, slice_get-map, slice_get_within, VarId}
-use Rattle.save_codec.proofs.Vocabulary.{Value, Formula, AreFreeVariables, same_free, Sort, AreWithinBounds}
-use Rattle.save_codec.proofs.Vocabulary.{numbered_operators, all_operators, kept_operand, HasItsColumns}
-use Rattle.save_codec.proofs.Vocabulary.{IsFirstOutOfBounds, numbered_operator, operator_of, KeptRow, WindowShape}
-use Rattle.save_codec.proofs.Vocabulary.{HasSorts, RowFits, SaveSetting, kept_row_of, BreaksAt, EndsFitting}
-use Rattle.save_codec.proofs.Vocabulary.{AreFittingRows, IsJudge, AreRowsWithin, Knows, FitTold, GuardTells, Fitting}
-use Rattle.save_codec.proofs.Vocabulary.{Judge, RowLine, Known}
+use Rattle.save_codec.proofs.Vocabulary.{◌≡◌, ◌↔◌, ◌++◌, ◌∷◌, ◌+◌, ◌<◌, [], ℕ, zero, suc, List, Option, Some, None, Bool, true, false, All, IsTrue, length, take, map, slice_get, refl, sym, ap, subst}
+use Rattle.save_codec.proofs.Vocabulary.{◌∙◌, arith, length-append, append_assoc, AllByRecursion, option_map, append-nil, take-append-le, take_at, All-contains, get_or_from_slice_get, slice_get-map}
+use Rattle.save_codec.proofs.Vocabulary.{slice_get_within, VarId, Value, Formula, AreFreeVariables, same_free, Sort, AreWithinBounds, numbered_operators, all_operators, kept_operand, HasItsColumns}
+use Rattle.save_codec.proofs.Vocabulary.{IsFirstOutOfBounds, numbered_operator, operator_of, KeptRow, WindowShape, HasSorts, RowFits, SaveSetting, kept_row_of, BreaksAt, EndsFitting, AreFittingRows}
+use Rattle.save_codec.proofs.Vocabulary.{IsJudge, AreRowsWithin, Knows, FitTold, GuardTells, Fitting, Judge, RowLine, Known}
 use Rattle.save_codec.proofs.KnowLemmas.{window_known}
 
 pub fit_as : (P Q : VarId → Sort → Type 0) → ((x : VarId) (sort : Sort) → Q x sort → P x sort) → (xs : List VarId) (values : List Value) → FitTold P xs values → FitTold Q xs values

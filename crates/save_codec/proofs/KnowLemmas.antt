@@ -1,11 +1,7 @@
 -- What is known of rules and windows, one after the other.
-use Rattle.save_codec.proofs.Vocabulary.{◌≡◌, ◌++◌, ◌∷◌, ◌+◌, ◌<◌, [], ℕ, zero, suc, List}
-use Rattle.save_codec.proofs.Vocabulary.{Some, Contains, IsTrue, length, get_or, take, map, slice_get, inl, inr}
-use Rattle.save_codec.proofs.Vocabulary.{⊎_elim, refl, sym, ap, subst, ◌∙◌, arith, map-append, take_more}
-use Rattle.save_codec.proofs.Vocabulary.{Contains-append_left, Contains-append_right, Contains-append, here, Formula}
-use Rattle.save_codec.proofs.Vocabulary.{NameEntry, Plan, plan_of, numbered_operator, WindowShape, KnowRules}
-use Rattle.save_codec.proofs.Vocabulary.{KnowWindows, KnowsJust, Learns, GuardedPlanTells, GuardTells, PlanTells}
-use Rattle.save_codec.proofs.Vocabulary.{has_guard, Known}
+use Rattle.save_codec.proofs.Vocabulary.{◌≡◌, ◌++◌, ◌∷◌, ◌+◌, ◌<◌, [], ℕ, zero, suc, List, Some, Contains, IsTrue, length, get_or, take, map, slice_get, inl, inr, ⊎_elim, refl, sym, ap, subst, ◌∙◌}
+use Rattle.save_codec.proofs.Vocabulary.{arith, map-append, take_more, Contains-append_left, Contains-append_right, Contains-append, here, Formula, NameEntry, Plan, plan_of, numbered_operator}
+use Rattle.save_codec.proofs.Vocabulary.{WindowShape, KnowRules, KnowWindows, KnowsJust, Learns, GuardedPlanTells, GuardTells, PlanTells, has_guard, Known}
 use Rattle.plan_terms.specs.declared.plans.Plan.{Plan as Stored}
 
 pub rules_on : (entries : List NameEntry) (plans : List Plan) (known : List Known) (plan : Plan) (more : Known) → KnowRules entries plans known → KnowsJust (PlanTells entries plan) more

@@ -1,8 +1,6 @@
 -- The lines by their parts.
-use Rattle.save_codec.proofs.Vocabulary.{◌≡◌, ◌++◌, ◌∷◌, ℕ, List, Option, Some, None, codes, decimal}
-use Rattle.save_codec.proofs.Vocabulary.{slice_index, refl, sym, ap, ◌∙◌, append_assoc, Value}
-use Rattle.save_codec.proofs.Vocabulary.{cancel_front as cancel, IsSmallTime, due_text, line_text, spaced, values_text}
-use Rattle.save_codec.proofs.Vocabulary.{Last, Row, Due}
+use Rattle.save_codec.proofs.Vocabulary.{◌≡◌, ◌++◌, ◌∷◌, ℕ, List, Option, Some, None, codes, decimal, slice_index, refl, sym, ap, ◌∙◌, append_assoc, Value, cancel_front as cancel, IsSmallTime}
+use Rattle.save_codec.proofs.Vocabulary.{due_text, line_text, spaced, values_text, Last, Row, Due}
 use Rattle.save_codec.proofs.ByteFronts.{decimal_is_no_minus}
 
 pub no_dash : (last : Option ℕ) (rest left behind : List ℕ) → IsSmallTime last → left ≡ line_text (Last last) ++ rest → left ≡ codes "last -\n" ++ behind → None ≡ last

@@ -1,22 +1,15 @@
 -- Bytes have one answer at most.
-use Rattle.save_codec.proofs.Vocabulary.{◌≡◌, ◌∷◌, ◌+◌, ◌<◌, ◌≤◌, ◌^◌, [], ℕ, zero, suc}
-use Rattle.save_codec.proofs.Vocabulary.{List, Option, Some, None, Bool, true, false, Ok, Err, Contains, drop, length}
-use Rattle.save_codec.proofs.Vocabulary.{take, map, refl, sym, ap, subst, ◌∙◌, arith, flat_map, take-append-drop}
-use Rattle.save_codec.proofs.Vocabulary.{take_all, All-take, All-weaker, Contains-append_left, OneTokenAtPlace}
-use Rattle.save_codec.proofs.Vocabulary.{PrintedIsToken, Interval, eq_from_neither_less, Formula, Prev, Once}
-use Rattle.save_codec.proofs.Vocabulary.{Historically, Since, ChosenBy, IsRisingBy, FoundHasRisingScope}
-use Rattle.save_codec.proofs.Vocabulary.{AreWithinBounds, HaveTime, IsKeepable, IsTimely, IsTimelyIn, all_operators}
-use Rattle.save_codec.proofs.Vocabulary.{IsRowBefore, KeptRow, DueFits, IsFirstUnfitLine, AreLinesWithin, RowFits}
-use Rattle.save_codec.proofs.Vocabulary.{SaveSetting, kept_row_of, clock_from, due_in, last_time_from, position_from}
-use Rattle.save_codec.proofs.Vocabulary.{row_in, AreLines, lines_of, line_of_due, line_of_row, FrontKeeps}
-use Rattle.save_codec.proofs.Vocabulary.{OneSaveAnswer, AnswersSave, Line, Clock, Last, Position, End, DueLine, RowLine}
-use Rattle.save_codec.proofs.Vocabulary.{StateRefusal, Syntax, OtherPolicy, Inconsistent, NoMemory, Snapshot}
+use Rattle.save_codec.proofs.Vocabulary.{◌≡◌, ◌∷◌, ◌+◌, ◌<◌, ◌≤◌, ◌^◌, [], ℕ, zero, suc, List, Option, Some, None, Bool, true, false, Ok, Err, Contains, drop, length, take, map, refl, sym, ap, subst}
+use Rattle.save_codec.proofs.Vocabulary.{◌∙◌, arith, flat_map, take-append-drop, take_all, All-take, All-weaker, Contains-append_left, OneTokenAtPlace, PrintedIsToken, Interval, eq_from_neither_less}
+use Rattle.save_codec.proofs.Vocabulary.{Formula, Prev, Once, Historically, Since, ChosenBy, IsRisingBy, FoundHasRisingScope, AreWithinBounds, HaveTime, IsKeepable, IsTimely, IsTimelyIn}
+use Rattle.save_codec.proofs.Vocabulary.{all_operators, IsRowBefore, KeptRow, DueFits, IsFirstUnfitLine, AreLinesWithin, RowFits, SaveSetting, kept_row_of, clock_from, due_in, last_time_from}
+use Rattle.save_codec.proofs.Vocabulary.{position_from, row_in, AreLines, lines_of, line_of_due, line_of_row, FrontKeeps, OneSaveAnswer, AnswersSave, Line, Clock, Last, Position, End, DueLine}
+use Rattle.save_codec.proofs.Vocabulary.{RowLine, StateRefusal, Syntax, OtherPolicy, Inconsistent, NoMemory, Snapshot}
 use Rattle.save_codec.proofs.JudgeLemmas.{all_take, map_take}
 use Rattle.save_codec.proofs.OneText.{one_text}
 use Rattle.save_codec.proofs.PartLemmas.{all_parts}
 use Rattle.save_codec.proofs.SavedTexts.{one_state}
-use Rattle.save_codec.proofs.StateLemmas.{Keep, body, due_lines, front_0, front_1, front_2, keep_is_within, whole}
-use Rattle.save_codec.proofs.StateLemmas.{within_is_keep}
+use Rattle.save_codec.proofs.StateLemmas.{Keep, body, due_lines, front_0, front_1, front_2, keep_is_within, whole, within_is_keep}
 use Rattle.save_codec.proofs.FirstFault.{one_fault, text_no_fault}
 
 -- ---- some of the rows can be kept where all can

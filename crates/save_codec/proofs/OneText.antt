@@ -1,11 +1,8 @@
 -- A text has one head and one list of lines.
-use Rattle.save_codec.proofs.Vocabulary.{◌≡◌, ◌++◌, ◌∷◌, ◌<◌, ◌≤◌, ◌+◌, ◌^◌, [], pos}
-use Rattle.save_codec.proofs.Vocabulary.{ℕ, List, Option, Some, None, codes, decimal, length, take, slice_index, refl}
-use Rattle.save_codec.proofs.Vocabulary.{sym, ap, ◌∙◌, arith, append_assoc, length-append, AllByRecursion}
-use Rattle.save_codec.proofs.Vocabulary.{take_at, spelled, IsNoDigit, IsValue, OneTokenAtPlace, PrintedIsToken, Value}
-use Rattle.save_codec.proofs.Vocabulary.{Num, one_value, cancel_front as cancel, IsLine, IsSmallNumber, IsSmallTime}
-use Rattle.save_codec.proofs.Vocabulary.{head_text, last_text, line_text, lines_text, sized, spaced, values_text}
-use Rattle.save_codec.proofs.Vocabulary.{LinesFollow, OneText, EndsValues, Line, Clock, Last, Position, Row, Due, End}
+use Rattle.save_codec.proofs.Vocabulary.{◌≡◌, ◌++◌, ◌∷◌, ◌<◌, ◌≤◌, ◌+◌, ◌^◌, [], pos, ℕ, List, Option, Some, None, codes, decimal, length, take, slice_index, refl, sym, ap, ◌∙◌, arith, append_assoc}
+use Rattle.save_codec.proofs.Vocabulary.{length-append, AllByRecursion, take_at, spelled, IsNoDigit, IsValue, OneTokenAtPlace, PrintedIsToken, Value, Num, one_value, cancel_front as cancel, IsLine}
+use Rattle.save_codec.proofs.Vocabulary.{IsSmallNumber, IsSmallTime, head_text, last_text, line_text, lines_text, sized, spaced, values_text, LinesFollow, OneText, EndsValues, Line, Clock, Last}
+use Rattle.save_codec.proofs.Vocabulary.{Position, Row, Due, End}
 use Rattle.save_codec.proofs.ByteFronts.{decimal_is_no_minus}
 use Rattle.save_codec.proofs.LineTexts.{due_split, row_split}
 use Rattle.save_codec.proofs.ValueLists.{ends_value, newline_ends, values_no_digit, no_space}

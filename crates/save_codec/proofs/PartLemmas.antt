@@ -1,10 +1,7 @@
 -- Lines of the form, by their kinds.
-use Rattle.save_codec.proofs.Vocabulary.{◌≡◌, ◌++◌, ◌∷◌, [], ℕ, List, Option, Some, None, IsTrue}
-use Rattle.save_codec.proofs.Vocabulary.{true, false, map, refl, sym, ap, ◌∙◌, flat_map, append-nil}
-use Rattle.save_codec.proofs.Vocabulary.{flat_map-append, false≢true, AreLines, LinesFollow, is_end_line, last_line}
-use Rattle.save_codec.proofs.Vocabulary.{clock_behind_line, clock_from, due_in, last_behind_line, last_time_from}
-use Rattle.save_codec.proofs.Vocabulary.{position_behind_line, position_from, row_in, line_of_due, line_of_row, Value}
-use Rattle.save_codec.proofs.Vocabulary.{Line, Clock, Last, Position, Row, Due, End, DueLine, RowLine}
+use Rattle.save_codec.proofs.Vocabulary.{◌≡◌, ◌++◌, ◌∷◌, [], ℕ, List, Option, Some, None, IsTrue, true, false, map, refl, sym, ap, ◌∙◌, flat_map, append-nil, flat_map-append, false≢true, AreLines}
+use Rattle.save_codec.proofs.Vocabulary.{LinesFollow, is_end_line, last_line, clock_behind_line, clock_from, due_in, last_behind_line, last_time_from, position_behind_line, position_from, row_in}
+use Rattle.save_codec.proofs.Vocabulary.{line_of_due, line_of_row, Value, Line, Clock, Last, Position, Row, Due, End, DueLine, RowLine}
 
 -- the lines begin with the three numbers
 pub record HasNumbers (lines : List Line) : Type 0 where

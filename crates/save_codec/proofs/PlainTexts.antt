@@ -1,7 +1,5 @@
 -- Texts each of whose bytes is printed as it is.
-use Rattle.save_codec.proofs.Vocabulary.{◌≡◌, ◌++◌, ◌∷◌, [], ℕ, List, length, subst, sym, ap}
-use Rattle.save_codec.proofs.Vocabulary.{◌∙◌, arith, append_assoc, flat_map, prefix_len, is_of_kind, escaped}
-use Rattle.save_codec.proofs.Vocabulary.{quoted, escaped-front, Plain}
+use Rattle.save_codec.proofs.Vocabulary.{◌≡◌, ◌++◌, ◌∷◌, [], ℕ, List, length, subst, sym, ap, ◌∙◌, arith, append_assoc, flat_map, prefix_len, is_of_kind, escaped, quoted, escaped-front, Plain}
 use Rattle.std.proofs.Common.{take_all}
 
 pub all_plain : (text : List ℕ) → prefix_len (is_of_kind Plain) text ≡ length text → flat_map escaped text ≡ text

@@ -1,11 +1,8 @@
 -- What was read of the lines of a text, and why none goes on.
-use Rattle.save_codec.proofs.Vocabulary.{◌≡◌, ◌++◌, ◌∷◌, ◌+◌, ◌<◌, ◌≤◌, ◌^◌, [], ℕ}
-use Rattle.save_codec.proofs.Vocabulary.{List, Option, Some, None, true, length, refl, sym, ap, subst, ◌∙◌, arith}
-use Rattle.save_codec.proofs.Vocabulary.{length-append, flat_map, append-nil, option_map, AreLines, LinesFollow}
-use Rattle.save_codec.proofs.Vocabulary.{line_follows, last_line, ends_text, line_kind, kind_may_follow, line_text}
-use Rattle.save_codec.proofs.Vocabulary.{lines_text, clock_behind_line, clock_from, due_in, last_behind_line}
-use Rattle.save_codec.proofs.Vocabulary.{last_time_from, position_behind_line, position_from, row_in, lines_in}
-use Rattle.save_codec.proofs.Vocabulary.{IsReadLine, Kind, Line, Clock, Last, Position, Row, Due, End, LineParts}
+use Rattle.save_codec.proofs.Vocabulary.{◌≡◌, ◌++◌, ◌∷◌, ◌+◌, ◌<◌, ◌≤◌, ◌^◌, [], ℕ, List, Option, Some, None, true, length, refl, sym, ap, subst, ◌∙◌, arith, length-append, flat_map, append-nil}
+use Rattle.save_codec.proofs.Vocabulary.{option_map, AreLines, LinesFollow, line_follows, last_line, ends_text, line_kind, kind_may_follow, line_text, lines_text, clock_behind_line, clock_from}
+use Rattle.save_codec.proofs.Vocabulary.{due_in, last_behind_line, last_time_from, position_behind_line, position_from, row_in, lines_in, IsReadLine, Kind, Line, Clock, Last, Position, Row, Due, End}
+use Rattle.save_codec.proofs.Vocabulary.{LineParts}
 use Rattle.save_codec.proofs.FormLemmas.{follow_on, last_line_behind, text_on}
 use Rattle.save_codec.proofs.PartLemmas.{all_of_them, clock_step, items_step, last_step, position_step}
 

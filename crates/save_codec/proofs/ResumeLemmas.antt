@@ -1,8 +1,6 @@
 -- The answer to a text, from its lines.
-use Rattle.save_codec.proofs.Vocabulary.{◌≡◌, ◌<◌, ◌^◌, List, ℕ, sym, subst, AreLinesWithin}
-use Rattle.save_codec.proofs.Vocabulary.{SaveSetting, KeepsBounds, AreLines, IsTextOfLines, lines_of, IsStateOf}
-use Rattle.save_codec.proofs.Vocabulary.{IsUnfitLine, IsSaveRefusal, Line, StateRefusal, Syntax, OtherPolicy}
-use Rattle.save_codec.proofs.Vocabulary.{Inconsistent, NoMemory, Snapshot}
+use Rattle.save_codec.proofs.Vocabulary.{◌≡◌, ◌<◌, ◌^◌, List, ℕ, sym, subst, AreLinesWithin, SaveSetting, KeepsBounds, AreLines, IsTextOfLines, lines_of, IsStateOf, IsUnfitLine, IsSaveRefusal, Line}
+use Rattle.save_codec.proofs.Vocabulary.{StateRefusal, Syntax, OtherPolicy, Inconsistent, NoMemory, Snapshot}
 
 -- a position of a line is below 2^63
 small_position : (state : Snapshot) → AreLines (lines_of state) → state.position < 2 ^ 63

@@ -1,6 +1,5 @@
 -- The parts of a saved text, one after the other.
-use Rattle.save_codec.proofs.Vocabulary.{◌≡◌, ◌++◌, ◌∷◌, [], ℕ, List, codes, sym, ap, ◌∙◌}
-use Rattle.save_codec.proofs.Vocabulary.{append_assoc, flat_map-append, line_text, lines_text, Line, End}
+use Rattle.save_codec.proofs.Vocabulary.{◌≡◌, ◌++◌, ◌∷◌, [], ℕ, List, codes, sym, ap, ◌∙◌, append_assoc, flat_map-append, line_text, lines_text, Line, End}
 
 seven : (a b c d e f g : List ℕ) → (((((a ++ b) ++ c) ++ d) ++ e) ++ f) ++ g ≡ a ++ (b ++ (c ++ (d ++ (e ++ (f ++ g)))))
 seven a b c d e f g = simp append_assoc

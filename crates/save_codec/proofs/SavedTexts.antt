@@ -1,15 +1,9 @@
 -- What is saved is a text of the grammar, and that of one state.
-use Rattle.save_codec.proofs.Vocabulary.{◌≡◌, ◌++◌, ◌∷◌, [], ℕ, List, Option, Some, None, IsSome}
-use Rattle.save_codec.proofs.Vocabulary.{IsTrue, All, Contains, length, map, refl, sym, ap, ◌∙◌, arith}
-use Rattle.save_codec.proofs.Vocabulary.{append_assoc, ⊎_elim, AllByRecursion, IsStrictlySortedBy, All-head, All-tail}
-use Rattle.save_codec.proofs.Vocabulary.{recursion_from_All, same_Some, Valuation, bindings, no_values, value_at}
-use Rattle.save_codec.proofs.Vocabulary.{variable_cmp, BindsColumns, same_valuation, IsValue, OneTokenAtPlace}
-use Rattle.save_codec.proofs.Vocabulary.{PrintedIsToken, VarId, Value, Sort, among_or_not, first_or_later, here, later}
-use Rattle.save_codec.proofs.Vocabulary.{none_in_nil, cell_here, cell_later, filled_outside, filled_unbound}
-use Rattle.save_codec.proofs.Vocabulary.{same_or_other, filled_from_row, row_cell, Plan, FoundHasRisingScope}
-use Rattle.save_codec.proofs.Vocabulary.{IsScopedPlan, FitsScope, future_in, KeptRow, CanBePending, Instance}
-use Rattle.save_codec.proofs.Vocabulary.{LinesFollow, is_end_line, last_line, IsLine, IsSmallNumber, due_line, lines_of}
-use Rattle.save_codec.proofs.Vocabulary.{row_line, values_in, OneState, SavedIsText, HasSmallNumbers, IsStoredInstance}
+use Rattle.save_codec.proofs.Vocabulary.{◌≡◌, ◌++◌, ◌∷◌, [], ℕ, List, Option, Some, None, IsSome, IsTrue, All, Contains, length, map, refl, sym, ap, ◌∙◌, arith, append_assoc, ⊎_elim, AllByRecursion}
+use Rattle.save_codec.proofs.Vocabulary.{IsStrictlySortedBy, All-head, All-tail, recursion_from_All, same_Some, Valuation, bindings, no_values, value_at, variable_cmp, BindsColumns, same_valuation}
+use Rattle.save_codec.proofs.Vocabulary.{IsValue, OneTokenAtPlace, PrintedIsToken, VarId, Value, Sort, among_or_not, first_or_later, here, later, none_in_nil, cell_here, cell_later, filled_outside}
+use Rattle.save_codec.proofs.Vocabulary.{filled_unbound, same_or_other, filled_from_row, row_cell, Plan, FoundHasRisingScope, IsScopedPlan, FitsScope, future_in, KeptRow, CanBePending, Instance}
+use Rattle.save_codec.proofs.Vocabulary.{LinesFollow, is_end_line, last_line, IsLine, IsSmallNumber, due_line, lines_of, row_line, values_in, OneState, SavedIsText, HasSmallNumbers, IsStoredInstance}
 use Rattle.save_codec.proofs.Vocabulary.{IsStoredRow, FitTold, FitsTold, Line, Position, End, Snapshot}
 use Rattle.save_codec.proofs.BoundLemmas.{bound_values, nothing_at}
 use Rattle.save_codec.proofs.FormLemmas.{last_line_behind}

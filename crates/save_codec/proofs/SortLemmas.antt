@@ -1,9 +1,6 @@
 -- What becomes known of the sorts of variables.
-use Rattle.save_codec.proofs.Vocabulary.{◌≡◌, ◌⊎◌, ◌↔◌, Bool, true, false, not, IsTrue, Contains}
-use Rattle.save_codec.proofs.Vocabulary.{Option, None, slice_get, List, ℤ, ℕ, [], ◌∷◌, ⊎_elim, inl, inr}
-use Rattle.save_codec.proofs.Vocabulary.{refl, sym, ap, subst, ◌∙◌, NameId, Term, Var, VarId, Value, variable_is}
-use Rattle.save_codec.proofs.Vocabulary.{entry_columns, NameEntry, Sort, Int, HasBesides, Knows, Learns, AtomTells}
-use Rattle.save_codec.proofs.Vocabulary.{FitsTold, TermTells, TermsTell, Known}
+use Rattle.save_codec.proofs.Vocabulary.{◌≡◌, ◌⊎◌, ◌↔◌, Bool, true, false, not, IsTrue, Contains, Option, None, slice_get, List, ℤ, ℕ, [], ◌∷◌, ⊎_elim, inl, inr, refl, sym, ap, subst, ◌∙◌, NameId}
+use Rattle.save_codec.proofs.Vocabulary.{Term, Var, VarId, Value, variable_is, entry_columns, NameEntry, Sort, Int, HasBesides, Knows, Learns, AtomTells, FitsTold, TermTells, TermsTell, Known}
 use Rattle.signature.specs.declared.entries.Sort.TheVariants.{Text}
 use Rattle.enf_data.specs.declared.values.Value.TheVariants as values
 

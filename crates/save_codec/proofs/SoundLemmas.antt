@@ -1,12 +1,8 @@
 -- The lines of a sound state keep the bounds.
-use Rattle.save_codec.proofs.Vocabulary.{◌≡◌, ◌++◌, ◌∷◌, [], ◌≤◌, List, true, Contains, map, refl}
-use Rattle.save_codec.proofs.Vocabulary.{sym, ap, subst, arith, AllByRecursion, All-contains, here, later, VarId}
-use Rattle.save_codec.proofs.Vocabulary.{same_free, FoundHasRisingScope, IsScopedPlan, AreWithinBounds, all_operators}
-use Rattle.save_codec.proofs.Vocabulary.{kept_operand, KeptRow, CanBePending, Instance, DueFits, AreLinesWithin}
-use Rattle.save_codec.proofs.Vocabulary.{RowFits, RuleTells, SaveSetting, kept_row_of, line_of_due, line_of_row}
-use Rattle.save_codec.proofs.Vocabulary.{due_line, lines_of, row_line, values_in, FitTold, GuardTells, IsSoundInstance}
-use Rattle.save_codec.proofs.Vocabulary.{IsSoundRow, SoundKeepsBounds, MOST_STATE_TIME, Clock, Last, Position, End}
-use Rattle.save_codec.proofs.Vocabulary.{DueLine, RowLine, Snapshot}
+use Rattle.save_codec.proofs.Vocabulary.{◌≡◌, ◌++◌, ◌∷◌, [], ◌≤◌, List, true, Contains, map, refl, sym, ap, subst, arith, AllByRecursion, All-contains, here, later, VarId, same_free}
+use Rattle.save_codec.proofs.Vocabulary.{FoundHasRisingScope, IsScopedPlan, AreWithinBounds, all_operators, kept_operand, KeptRow, CanBePending, Instance, DueFits, AreLinesWithin, RowFits, RuleTells}
+use Rattle.save_codec.proofs.Vocabulary.{SaveSetting, kept_row_of, line_of_due, line_of_row, due_line, lines_of, row_line, values_in, FitTold, GuardTells, IsSoundInstance, IsSoundRow}
+use Rattle.save_codec.proofs.Vocabulary.{SoundKeepsBounds, MOST_STATE_TIME, Clock, Last, Position, End, DueLine, RowLine, Snapshot}
 use Rattle.save_codec.proofs.InstanceLemmas.{scope_rises, wait_same}
 use Rattle.save_codec.proofs.SavedTexts.{fits_scope, values_there}
 use Rattle.save_codec.proofs.StateLemmas.{keep_is_within, whole}

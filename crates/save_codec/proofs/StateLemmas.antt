@@ -1,15 +1,10 @@
 -- The fronts of the lines of a state, and the bounds that they keep.
-use Rattle.save_codec.proofs.Vocabulary.{◌≡◌, ◌↔◌, ◌++◌, ◌∷◌, ◌+◌, ◌≤◌, [], ℕ, suc}
-use Rattle.save_codec.proofs.Vocabulary.{List, Option, Some, None, Bool, true, false, length, take, map, inl, inr, refl}
-use Rattle.save_codec.proofs.Vocabulary.{sym, ap, subst, ◌∙◌, arith, length-append, AllByRecursion, flat_map}
-use Rattle.save_codec.proofs.Vocabulary.{take-append-add, append-nil, take-append-le, All-from_recursion, All-nil}
-use Rattle.save_codec.proofs.Vocabulary.{Formula, AreWithinBounds, IsKeepable, IsFrom, all_operators, KeptRow}
-use Rattle.save_codec.proofs.Vocabulary.{CanBePending, Instance, AgreesWith, DueFits, IsFirstUnfitLine, AreLinesWithin}
-use Rattle.save_codec.proofs.Vocabulary.{RowFits, SaveSetting, kept_row_of, clock_from, due_in, last_time_from}
-use Rattle.save_codec.proofs.Vocabulary.{position_from, row_in, AreInstancesOf, AreNumbers, BreaksAt, AreDuesWithin}
-use Rattle.save_codec.proofs.Vocabulary.{IsStateOf, IsUnfit, IsUnfitLine, IsUnfitNumber, AreRowsWithin, unfit_refusal}
-use Rattle.save_codec.proofs.Vocabulary.{line_of_due, line_of_row, due_line, row_line, Unfit, At, MOST_STATE_TIME, Line}
-use Rattle.save_codec.proofs.Vocabulary.{Clock, Last, Position, End, DueLine, RowLine, Inconsistent}
+use Rattle.save_codec.proofs.Vocabulary.{◌≡◌, ◌↔◌, ◌++◌, ◌∷◌, ◌+◌, ◌≤◌, [], ℕ, suc, List, Option, Some, None, Bool, true, false, length, take, map, inl, inr, refl, sym, ap, subst, ◌∙◌, arith}
+use Rattle.save_codec.proofs.Vocabulary.{length-append, AllByRecursion, flat_map, take-append-add, append-nil, take-append-le, All-from_recursion, All-nil, Formula, AreWithinBounds, IsKeepable}
+use Rattle.save_codec.proofs.Vocabulary.{IsFrom, all_operators, KeptRow, CanBePending, Instance, AgreesWith, DueFits, IsFirstUnfitLine, AreLinesWithin, RowFits, SaveSetting, kept_row_of, clock_from}
+use Rattle.save_codec.proofs.Vocabulary.{due_in, last_time_from, position_from, row_in, AreInstancesOf, AreNumbers, BreaksAt, AreDuesWithin, IsStateOf, IsUnfit, IsUnfitLine, IsUnfitNumber}
+use Rattle.save_codec.proofs.Vocabulary.{AreRowsWithin, unfit_refusal, line_of_due, line_of_row, due_line, row_line, Unfit, At, MOST_STATE_TIME, Line, Clock, Last, Position, End, DueLine, RowLine}
+use Rattle.save_codec.proofs.Vocabulary.{Inconsistent}
 use Rattle.save_codec.specs.declared.judging.Unfit.TheVariants.{NoMemory}
 use Rattle.save_codec.proofs.JudgeLemmas.{map_long, map_take}
 

@@ -1,8 +1,6 @@
 -- What is left of a list of values of which some were read.
-use Rattle.save_codec.proofs.Vocabulary.{◌≡◌, ◌++◌, ◌∷◌, [], ℕ, List, sym, ap, subst, ◌∙◌}
-use Rattle.save_codec.proofs.Vocabulary.{arith, append_assoc, append-nil, flat_map-append, AllByRecursion, spelled}
-use Rattle.save_codec.proofs.Vocabulary.{EndsBefore, IsNoDigit, IsValue, Value, Num, Text, cancel_front as cancel}
-use Rattle.save_codec.proofs.Vocabulary.{values_text, EndsValues}
+use Rattle.save_codec.proofs.Vocabulary.{◌≡◌, ◌++◌, ◌∷◌, [], ℕ, List, sym, ap, subst, ◌∙◌, arith, append_assoc, append-nil, flat_map-append, AllByRecursion, spelled, EndsBefore, IsNoDigit, IsValue}
+use Rattle.save_codec.proofs.Vocabulary.{Value, Num, Text, cancel_front as cancel, values_text, EndsValues}
 
 -- where values stood at the front of the text, these were read of them, and this is left
 abbrev pub AreLeft : (text : List ℕ) → (read : List Value) → (left : List ℕ) → Type 0

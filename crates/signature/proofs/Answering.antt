@@ -1,20 +1,14 @@
 -- The reader's answer is the one answer to a text.
-use Rattle.signature.proofs.Vocabulary.{◌≡◌, ℕ, true, false, List, [], ◌∷◌, ◌++◌, length, inl, inr}
-use Rattle.signature.proofs.Vocabulary.{⊎_elim, Some, Result, Ok, Err, refl, sym, ap, subst, ◌∙◌, arith}
-use Rattle.signature.proofs.Vocabulary.{append_assoc, option_and_then, append-nil, same_Some, NameEntry, Part}
-use Rattle.signature.proofs.Vocabulary.{SignatureRefusal, Syntax, AreNamed, IsSignature, entries_tokens}
-use Rattle.signature.proofs.Vocabulary.{signature_tokens, CanBeginSignature, IsSignatureSentence, AnswersSignature}
-use Rattle.signature.proofs.Vocabulary.{SignatureRefusalStands, SignatureState, made_entry, entry_limit_refusal}
-use Rattle.signature.proofs.Vocabulary.{state_after_token, word_sort, taken_token, IsFitPart, Token, WordToken}
-use Rattle.signature.proofs.Vocabulary.{TokenAtPlace, token_kinds, SymbolToken, OpenParen, CloseParen, Comma, Semicolon}
-use Rattle.signature.proofs.Vocabulary.{PlusMinus, Plus, Minus}
+use Rattle.signature.proofs.Vocabulary.{◌≡◌, ℕ, true, false, List, [], ◌∷◌, ◌++◌, length, inl, inr, ⊎_elim, Some, Result, Ok, Err, refl, sym, ap, subst, ◌∙◌, arith, append_assoc, option_and_then}
+use Rattle.signature.proofs.Vocabulary.{append-nil, same_Some, NameEntry, Part, SignatureRefusal, Syntax, AreNamed, IsSignature, entries_tokens, signature_tokens, CanBeginSignature}
+use Rattle.signature.proofs.Vocabulary.{IsSignatureSentence, AnswersSignature, SignatureRefusalStands, SignatureState, made_entry, entry_limit_refusal, state_after_token, word_sort, taken_token}
+use Rattle.signature.proofs.Vocabulary.{IsFitPart, Token, WordToken, TokenAtPlace, token_kinds, SymbolToken, OpenParen, CloseParen, Comma, Semicolon, PlusMinus, Plus, Minus}
 use Rattle.signature.proofs.SignatureLaws.{IsFirstSignatureRefusal}
 use Rattle.signature.proofs.Fits.{chosen_some, sort_taken, taken_parts, fit_next}
 use Rattle.signature.proofs.Growth.{grows, within_limits}
 use Rattle.signature.proofs.Numbers.{signature_push}
 use Rattle.signature.proofs.Runs.{run, run-append, run_tokens, onward, same_entries}
-use Rattle.signature.proofs.Standing.{Reached, IsLimit, nothing_reached, reached_next, refused_stands, stands_refused}
-use Rattle.signature.proofs.Standing.{stands_by, err_is, none_some}
+use Rattle.signature.proofs.Standing.{Reached, IsLimit, nothing_reached, reached_next, refused_stands, stands_refused, stands_by, err_is, none_some}
 use Rattle.signature.specs.declared.reading.Part.TheVariants as parts
 
 -- at the end of a text

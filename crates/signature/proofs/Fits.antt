@@ -1,12 +1,8 @@
 -- What the limits leave of the next entry stays so at each token that is taken.
-use Rattle.signature.proofs.Vocabulary.{◌≡◌, ℕ, ◌+◌, ◌<◌, ◌≤◌, ◌==◌, nat_lt, Bool, true}
-use Rattle.signature.proofs.Vocabulary.{false, cond, List, [], ◌∷◌, ◌++◌, length, Option, None, Some, Ok}
-use Rattle.signature.proofs.Vocabulary.{refl, subst, arith, length-append, ltb-false, nat_tests, same_Some, is_name}
-use Rattle.signature.proofs.Vocabulary.{Token, WordToken, SymbolToken, NameEntry, Sort, Part, SignatureRefusal}
-use Rattle.signature.proofs.Vocabulary.{name_number, SignatureState, after_sort, made_entry, entry_limit_refusal}
-use Rattle.signature.proofs.Vocabulary.{entry_name_refusal, state_after_token, repeated_name_refusal, word_sort}
-use Rattle.signature.proofs.Vocabulary.{taken_or_refused, IsFitPart, IsFreeName, OpenParen, CloseParen, Comma}
-use Rattle.signature.proofs.Vocabulary.{Semicolon, PlusMinus, Plus, Minus}
+use Rattle.signature.proofs.Vocabulary.{◌≡◌, ℕ, ◌+◌, ◌<◌, ◌≤◌, ◌==◌, nat_lt, Bool, true, false, cond, List, [], ◌∷◌, ◌++◌, length, Option, None, Some, Ok, refl, subst, arith, length-append, ltb-false}
+use Rattle.signature.proofs.Vocabulary.{nat_tests, same_Some, is_name, Token, WordToken, SymbolToken, NameEntry, Sort, Part, SignatureRefusal, name_number, SignatureState, after_sort, made_entry}
+use Rattle.signature.proofs.Vocabulary.{entry_limit_refusal, entry_name_refusal, state_after_token, repeated_name_refusal, word_sort, taken_or_refused, IsFitPart, IsFreeName, OpenParen, CloseParen}
+use Rattle.signature.proofs.Vocabulary.{Comma, Semicolon, PlusMinus, Plus, Minus}
 use Rattle.signature.specs.declared.reading.Part.TheVariants as parts
 
 -- a token was taken where the grammar has a next state and no limit refuses it

@@ -1,12 +1,8 @@
 -- What has come of a signature stays in the one that its tokens lead to.
-use Rattle.signature.proofs.Vocabulary.{◌≡◌, ℕ, ◌+◌, ◌≤◌, ◌==◌, nat_lt, true, false, cond, List}
-use Rattle.signature.proofs.Vocabulary.{[], ◌∷◌, ◌++◌, length, Option, None, Some, refl, sym, ap, subst}
-use Rattle.signature.proofs.Vocabulary.{◌∙◌, arith, append_assoc, length-append, option_and_then, le-ltb}
-use Rattle.signature.proofs.Vocabulary.{nat_tests, append-nil, same_Some, is_name, Token, WordToken, SymbolToken}
-use Rattle.signature.proofs.Vocabulary.{NameEntry, Part, Names, Arity, Name, Limit, IsSignature, IsNewEntry}
-use Rattle.signature.proofs.Vocabulary.{SignatureState, made_entry, entry_limit_refusal, entry_name_refusal}
-use Rattle.signature.proofs.Vocabulary.{state_after_token, repeated_name_refusal, word_sort, OpenParen, CloseParen}
-use Rattle.signature.proofs.Vocabulary.{Comma, Semicolon, PlusMinus, Plus, Minus}
+use Rattle.signature.proofs.Vocabulary.{◌≡◌, ℕ, ◌+◌, ◌≤◌, ◌==◌, nat_lt, true, false, cond, List, [], ◌∷◌, ◌++◌, length, Option, None, Some, refl, sym, ap, subst, ◌∙◌, arith, append_assoc}
+use Rattle.signature.proofs.Vocabulary.{length-append, option_and_then, le-ltb, nat_tests, append-nil, same_Some, is_name, Token, WordToken, SymbolToken, NameEntry, Part, Names, Arity, Name, Limit}
+use Rattle.signature.proofs.Vocabulary.{IsSignature, IsNewEntry, SignatureState, made_entry, entry_limit_refusal, entry_name_refusal, state_after_token, repeated_name_refusal, word_sort, OpenParen}
+use Rattle.signature.proofs.Vocabulary.{CloseParen, Comma, Semicolon, PlusMinus, Plus, Minus}
 use Rattle.signature.proofs.Fits.{chosen_some, sort_taken}
 use Rattle.signature.proofs.Numbers.{new_next}
 use Rattle.signature.proofs.Runs.{run}

@@ -1,14 +1,9 @@
 -- The loop over the tokens of a text: what is read and what is left give the answer to the whole.
-use Rattle.signature.proofs.Vocabulary.{◌≡◌, ℕ, ◌+◌, ◌≤◌, List, [], ◌∷◌, length, Result, Ok}
-use Rattle.signature.proofs.Vocabulary.{Err, refl, sym, ap, subst, ◌∙◌, TokenAtPlace, Token, WordToken}
-use Rattle.signature.proofs.Vocabulary.{NumberToken, NegativeToken, TextToken, SymbolToken, WrongToken, tokens_at}
-use Rattle.signature.proofs.Vocabulary.{Arrow, Minus, onto_tokens, signature_tokens, without_arrows, NameEntry, Part}
-use Rattle.signature.proofs.Vocabulary.{SignatureRefusal, Syntax, Repeated, Limit, NoMemory, SignatureState}
-use Rattle.signature.proofs.Vocabulary.{arrow_refusal_by, entry_limit_refusal, state_after_token, taken_token}
-use Rattle.signature.proofs.Vocabulary.{IsFitPart, RefusesArrow, TakesToken, GivesEntries, GivesSignatureAnswer}
-use Rattle.signature.proofs.Vocabulary.{AnswersSignature}
-use Rattle.signature.proofs.Answering.{answer_from, answer_of, answer_to, ended, only_answer, reader_answers, start_on}
-use Rattle.signature.proofs.Answering.{then_answer}
+use Rattle.signature.proofs.Vocabulary.{◌≡◌, ℕ, ◌+◌, ◌≤◌, List, [], ◌∷◌, length, Result, Ok, Err, refl, sym, ap, subst, ◌∙◌, TokenAtPlace, Token, WordToken, NumberToken, NegativeToken, TextToken}
+use Rattle.signature.proofs.Vocabulary.{SymbolToken, WrongToken, tokens_at, Arrow, Minus, onto_tokens, signature_tokens, without_arrows, NameEntry, Part, SignatureRefusal, Syntax, Repeated, Limit}
+use Rattle.signature.proofs.Vocabulary.{NoMemory, SignatureState, arrow_refusal_by, entry_limit_refusal, state_after_token, taken_token, IsFitPart, RefusesArrow, TakesToken, GivesEntries}
+use Rattle.signature.proofs.Vocabulary.{GivesSignatureAnswer, AnswersSignature}
+use Rattle.signature.proofs.Answering.{answer_from, answer_of, answer_to, ended, only_answer, reader_answers, start_on, then_answer}
 use Rattle.signature.proofs.Fits.{fit_next, taken_parts}
 use Rattle.enf_value.specs.declared.tokens.Mark.TheVariants as marks
 use Rattle.signature.specs.declared.reading.Part.TheVariants as parts

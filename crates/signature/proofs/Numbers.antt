@@ -1,12 +1,8 @@
 -- The number of a name among entries that are kept under their names.
-use Rattle.signature.proofs.Vocabulary.{◌≡◌, ℕ, suc, ◌<◌, ◌≤◌, Bool, true, false, cond, List, []}
-use Rattle.signature.proofs.Vocabulary.{◌∷◌, ◌++◌, length, map, Option, None, Some, Contains, Vec, position}
-use Rattle.signature.proofs.Vocabulary.{refl, sym, ap, subst, ◌∙◌, arith, zero, true≢false, get_or, slice_get}
-use Rattle.signature.proofs.Vocabulary.{length-append, lookup, keys_of, option_map, bytes_eq, Global}
-use Rattle.signature.proofs.Vocabulary.{Contains-append_right, All-push, All-contains, bytes_eq-Decides, same_Some}
-use Rattle.signature.proofs.Vocabulary.{HasNoRepeats, HasNoRepeats-push, HasNoRepeats-middle, position-cons, NameId}
-use Rattle.signature.proofs.Vocabulary.{NameEntry, entry_names, name_number, IsNameEntry, IsSignature, IsNewEntry}
-use Rattle.signature.proofs.Vocabulary.{AreKeyedByName}
+use Rattle.signature.proofs.Vocabulary.{◌≡◌, ℕ, suc, ◌<◌, ◌≤◌, Bool, true, false, cond, List, [], ◌∷◌, ◌++◌, length, map, Option, None, Some, Contains, Vec, position, refl, sym, ap, subst, ◌∙◌, arith}
+use Rattle.signature.proofs.Vocabulary.{zero, true≢false, get_or, slice_get, length-append, lookup, keys_of, option_map, bytes_eq, Global, Contains-append_right, All-push, All-contains}
+use Rattle.signature.proofs.Vocabulary.{bytes_eq-Decides, same_Some, HasNoRepeats, HasNoRepeats-push, HasNoRepeats-middle, position-cons, NameId, NameEntry, entry_names, name_number, IsNameEntry}
+use Rattle.signature.proofs.Vocabulary.{IsSignature, IsNewEntry, AreKeyedByName}
 use Rattle.signature.proofs.SignatureLaws.{number_only}
 
 -- the keys tell the numbers of the entries

@@ -1,11 +1,7 @@
 -- Runs of the reader without its limits: the tokens of entries lead to those entries, and to no others.
-use Rattle.signature.proofs.Vocabulary.{◌≡◌, ℕ, ◌<◌, Bool, true, false, cond, List, [], ◌∷◌, ◌++◌}
-use Rattle.signature.proofs.Vocabulary.{length, Option, None, Some, refl, sym, ap, ◌∙◌, arith, append_assoc}
-use Rattle.signature.proofs.Vocabulary.{AllByRecursion, flat_map, option_and_then, IsTrue, append-nil}
-use Rattle.signature.proofs.Vocabulary.{recursion_from_All, is_name, Token, WordToken, SymbolToken, NameEntry, Sort}
-use Rattle.signature.proofs.Vocabulary.{Int, Text, Part, AreNamed, entry_tokens, mark_tokens, sort_token, sort_tokens}
-use Rattle.signature.proofs.Vocabulary.{entries_tokens, CanBeginSignature, SignatureState, state_after_token, OpenParen}
-use Rattle.signature.proofs.Vocabulary.{CloseParen, Comma, Semicolon}
+use Rattle.signature.proofs.Vocabulary.{◌≡◌, ℕ, ◌<◌, Bool, true, false, cond, List, [], ◌∷◌, ◌++◌, length, Option, None, Some, refl, sym, ap, ◌∙◌, arith, append_assoc, AllByRecursion, flat_map}
+use Rattle.signature.proofs.Vocabulary.{option_and_then, IsTrue, append-nil, recursion_from_All, is_name, Token, WordToken, SymbolToken, NameEntry, Sort, Int, Text, Part, AreNamed, entry_tokens}
+use Rattle.signature.proofs.Vocabulary.{mark_tokens, sort_token, sort_tokens, entries_tokens, CanBeginSignature, SignatureState, state_after_token, OpenParen, CloseParen, Comma, Semicolon}
 use Rattle.signature.specs.declared.reading.Part.TheVariants as parts
 
 -- the state after tokens that can all stand

@@ -1,11 +1,8 @@
 -- The laws of names, numbers, sorts and answers.
-use Rattle.signature.proofs.Vocabulary.{position-cons, Value, HasNoRepeats, refl, sym, ◌∙◌, ap, subst}
-use Rattle.signature.proofs.Vocabulary.{slice_get-map, slice_get_within, get_or_from_slice_get, bytes_eq-Decides}
-use Rattle.signature.proofs.Vocabulary.{option_map, IsTrue, bytes_eq, TokenAtPlace, NameEntry, Sort, Int, Text}
-use Rattle.signature.proofs.Vocabulary.{SignatureRefusal, Syntax, OneSignatureAnswer, has_sort, value_sort, entry_names}
-use Rattle.signature.proofs.Vocabulary.{name_number, AnswersSignature, SignatureRefusalStandsBehind, ArePlacedSentence}
-use Rattle.std.specs.Prelude.{◌≡◌, ℕ, List, Result, Option, slice_get, Some, Contains, zero, suc, Bool}
-use Rattle.std.specs.Prelude.{true, false, cond, [], ◌∷◌}
+use Rattle.signature.proofs.Vocabulary.{position-cons, Value, HasNoRepeats, refl, sym, ◌∙◌, ap, subst, slice_get-map, slice_get_within, get_or_from_slice_get, bytes_eq-Decides, option_map, IsTrue}
+use Rattle.signature.proofs.Vocabulary.{bytes_eq, TokenAtPlace, NameEntry, Sort, Int, Text, SignatureRefusal, Syntax, OneSignatureAnswer, has_sort, value_sort, entry_names, name_number}
+use Rattle.signature.proofs.Vocabulary.{AnswersSignature, SignatureRefusalStandsBehind, ArePlacedSentence}
+use Rattle.std.specs.Prelude.{◌≡◌, ℕ, List, Result, Option, slice_get, Some, Contains, zero, suc, Bool, true, false, cond, [], ◌∷◌}
 use Rattle.enf_data.specs.declared.values.Value.TheVariants as values
 use Rattle.enf_value.specs.meaning.FirstRefusal as first
 

@@ -1,19 +1,12 @@
 -- A refusal stands at a token exactly where the reader refuses it.
-use Rattle.signature.proofs.Vocabulary.{◌≡◌, ℕ, ◌≤◌, ◌==◌, nat_lt, Bool, true, false, cond, List, []}
-use Rattle.signature.proofs.Vocabulary.{◌∷◌, ◌++◌, length, ◌⊎◌, inl, inr, Option, None, Some, Result}
-use Rattle.signature.proofs.Vocabulary.{Ok, Err, refl, sym, ap, subst, ◌∙◌, arith, append_assoc, eqb-true, eq-eqb}
-use Rattle.signature.proofs.Vocabulary.{⊎_elim, option_and_then, IsTrue, ltb-false, ltb-true, lt-ltb, le-ltb}
-use Rattle.signature.proofs.Vocabulary.{nat_tests, append-nil, same_Some, is_name, Token, WordToken, TokenAtPlace}
-use Rattle.signature.proofs.Vocabulary.{SymbolToken, NameEntry, Sort, Int, Text, Part, Names, Arity, Name}
-use Rattle.signature.proofs.Vocabulary.{SignatureRefusal, Syntax, Repeated, Limit, NoMemory, AreNamed, name_number}
-use Rattle.signature.proofs.Vocabulary.{sort_token, sort_tokens, entries_tokens, CanBeginSignature, IsNextName}
-use Rattle.signature.proofs.Vocabulary.{IsNextSort, SignatureRefusalStands, SignatureState, entry_limit_refusal}
-use Rattle.signature.proofs.Vocabulary.{entry_name_refusal, state_after_token, repeated_name_refusal, word_sort}
-use Rattle.signature.proofs.Vocabulary.{taken_token, taken_or_refused, OpenParen, Comma}
+use Rattle.signature.proofs.Vocabulary.{◌≡◌, ℕ, ◌≤◌, ◌==◌, nat_lt, Bool, true, false, cond, List, [], ◌∷◌, ◌++◌, length, ◌⊎◌, inl, inr, Option, None, Some, Result, Ok, Err, refl, sym, ap, subst, ◌∙◌}
+use Rattle.signature.proofs.Vocabulary.{arith, append_assoc, eqb-true, eq-eqb, ⊎_elim, option_and_then, IsTrue, ltb-false, ltb-true, lt-ltb, le-ltb, nat_tests, append-nil, same_Some, is_name, Token}
+use Rattle.signature.proofs.Vocabulary.{WordToken, TokenAtPlace, SymbolToken, NameEntry, Sort, Int, Text, Part, Names, Arity, Name, SignatureRefusal, Syntax, Repeated, Limit, NoMemory, AreNamed}
+use Rattle.signature.proofs.Vocabulary.{name_number, sort_token, sort_tokens, entries_tokens, CanBeginSignature, IsNextName, IsNextSort, SignatureRefusalStands, SignatureState, entry_limit_refusal}
+use Rattle.signature.proofs.Vocabulary.{entry_name_refusal, state_after_token, repeated_name_refusal, word_sort, taken_token, taken_or_refused, OpenParen, Comma}
 use Rattle.signature.proofs.Fits.{chosen_some, sort_taken}
 use Rattle.signature.proofs.Runs.{run, run-append, run_tokens, run_open, run_sorts, onward, same_entries, cannot_begin}
-use Rattle.signature.proofs.Written.{IsSound, written, written_next, sound_next, named_next, written_can_begin}
-use Rattle.signature.proofs.Written.{sort_word}
+use Rattle.signature.proofs.Written.{IsSound, written, written_next, sound_next, named_next, written_can_begin, sort_word}
 use Rattle.signature.specs.declared.reading.Part.TheVariants as parts
 
 -- the tokens lead to the state, and are what was written of it

@@ -1,9 +1,7 @@
 -- The words in which the proofs of this crate speak: those of std, of the crates below and of its own specs.
-pub use Rattle.std.proofs.Common.{Bool, Contains, Err, List, None, Ok, Option, Result, Some, Vec, [], ap, append_assoc}
-pub use Rattle.std.proofs.Common.{arith, codes, cond, eq-eqb, eqb-true, false, get_or, inl, inr, length, length-append}
-pub use Rattle.std.proofs.Common.{map, nat_eq, nat_lt, position, refl, rules, slice_get, subst, suc, sym, true}
-pub use Rattle.std.proofs.Common.{true≢false, zero, ℕ, ⊎_elim, ◌++◌, ◌+◌, ◌-◌, ◌<◌, ◌==◌}
-pub use Rattle.std.proofs.Common.{◌∙◌, ◌∷◌, ◌≡◌, ◌≤◌, ◌⊎◌}
+pub use Rattle.std.proofs.Common.{Bool, Contains, Err, List, None, Ok, Option, Result, Some, Vec, [], ap, append_assoc, arith, codes, cond, eq-eqb, eqb-true, false, get_or, inl, inr, length}
+pub use Rattle.std.proofs.Common.{length-append, map, nat_eq, nat_lt, position, refl, rules, slice_get, subst, suc, sym, true, true≢false, zero, ℕ, ⊎_elim, ◌++◌, ◌+◌, ◌-◌, ◌<◌, ◌==◌, ◌∙◌, ◌∷◌, ◌≡◌}
+pub use Rattle.std.proofs.Common.{◌≤◌, ◌⊎◌}
 pub use Rattle.std.proofs.lemmas.Bool.{le-ltb, lt-ltb, ltb-false, ltb-true}
 pub use Rattle.std.proofs.lemmas.Bool.Decides.{nat_tests}
 pub use Rattle.std.proofs.lemmas.List.{append-nil}
@@ -21,11 +19,9 @@ pub use Rattle.enf_data.proofs.Lists.{HasNoRepeats-middle, HasNoRepeats-push, po
 pub use Rattle.enf_data.specs.declared.events.NameId.{NameId}
 pub use Rattle.enf_data.specs.declared.values.Value.{Value}
 pub use Rattle.enf_data.specs.meaning.Membership.{HasNoRepeats}
-pub use Rattle.enf_value.specs.declared.tokens.Mark.TheVariants.{Arrow, CloseParen, Comma, Minus, OpenParen, Plus}
-pub use Rattle.enf_value.specs.declared.tokens.Mark.TheVariants.{PlusMinus, Semicolon}
+pub use Rattle.enf_value.specs.declared.tokens.Mark.TheVariants.{Arrow, CloseParen, Comma, Minus, OpenParen, Plus, PlusMinus, Semicolon}
 pub use Rattle.enf_value.specs.machine.TokenViews.{placed_of, token_of}
-pub use Rattle.enf_value.specs.meaning.Tokens.{NegativeToken, NumberToken, SymbolToken, TextToken, Token, TokenAtPlace}
-pub use Rattle.enf_value.specs.meaning.Tokens.{WordToken, WrongToken, is_name, token_kinds, tokens_at}
+pub use Rattle.enf_value.specs.meaning.Tokens.{NegativeToken, NumberToken, SymbolToken, TextToken, Token, TokenAtPlace, WordToken, WrongToken, is_name, token_kinds, tokens_at}
 pub use Rattle.indexmap.proofs.CallerLemmas.{insert_entry-new}
 pub use Rattle.signature.specs.declared.entries.NameEntry.{NameEntry}
 pub use Rattle.signature.specs.declared.entries.Sort.{Sort}
@@ -36,15 +32,10 @@ pub use Rattle.signature.specs.declared.refusals.SignatureRefusal.{SignatureRefu
 pub use Rattle.signature.specs.declared.refusals.SignatureRefusal.TheVariants.{Limit, NoMemory, Repeated, Syntax}
 pub use Rattle.signature.specs.machine.Entries.{AreKeyedByName, IsNewEntry}
 pub use Rattle.signature.specs.machine.Laws.{OneSignatureAnswer}
-pub use Rattle.signature.specs.machine.Reader.{GivesEntries, GivesSignatureAnswer, IsFitPart, IsFreeName, RefusesArrow}
-pub use Rattle.signature.specs.machine.Reader.{SignatureState, TakesToken, after_sort, arrow_refusal_by}
-pub use Rattle.signature.specs.machine.Reader.{entry_limit_refusal, entry_name_refusal, made_entry}
-pub use Rattle.signature.specs.machine.Reader.{repeated_name_refusal, state_after_token, taken_or_refused, taken_token}
-pub use Rattle.signature.specs.machine.Reader.{word_sort}
+pub use Rattle.signature.specs.machine.Reader.{GivesEntries, GivesSignatureAnswer, IsFitPart, IsFreeName, RefusesArrow, SignatureState, TakesToken, after_sort, arrow_refusal_by, entry_limit_refusal}
+pub use Rattle.signature.specs.machine.Reader.{entry_name_refusal, made_entry, repeated_name_refusal, state_after_token, taken_or_refused, taken_token, word_sort}
 pub use Rattle.signature.specs.meaning.Columns.{has_sort, value_sort}
-pub use Rattle.signature.specs.meaning.Grammar.{AreNamed, IsNameEntry, IsSignature, entries_tokens, entry_names}
-pub use Rattle.signature.specs.meaning.Grammar.{entry_tokens, mark_tokens, name_number, onto_tokens, signature_tokens}
-pub use Rattle.signature.specs.meaning.Grammar.{sort_token, sort_tokens, without_arrows}
-pub use Rattle.signature.specs.meaning.Refusals.{AnswersSignature, ArePlacedSentence, CanBeginSignature, IsNextName}
-pub use Rattle.signature.specs.meaning.Refusals.{IsNextSort, IsSignatureSentence, SignatureRefusalStands}
+pub use Rattle.signature.specs.meaning.Grammar.{AreNamed, IsNameEntry, IsSignature, entries_tokens, entry_names, entry_tokens, mark_tokens, name_number, onto_tokens, signature_tokens, sort_token}
+pub use Rattle.signature.specs.meaning.Grammar.{sort_tokens, without_arrows}
+pub use Rattle.signature.specs.meaning.Refusals.{AnswersSignature, ArePlacedSentence, CanBeginSignature, IsNextName, IsNextSort, IsSignatureSentence, SignatureRefusalStands}
 pub use Rattle.signature.specs.meaning.Refusals.{SignatureRefusalStandsBehind}

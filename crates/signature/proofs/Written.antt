@@ -1,12 +1,8 @@
 -- What was written of a signature, by the state that its tokens lead to; it can go on.
-use Rattle.signature.proofs.Vocabulary.{◌≡◌, ℕ, ◌<◌, Bool, true, false, cond, List, [], ◌∷◌, ◌++◌}
-use Rattle.signature.proofs.Vocabulary.{length, codes, None, Some, refl, sym, ap, subst, ◌∙◌, arith, append_assoc}
-use Rattle.signature.proofs.Vocabulary.{length-append, flat_map, IsTrue, bytes_eq, append-nil, All-push}
-use Rattle.signature.proofs.Vocabulary.{bytes_eq-Decides, same_Some, is_name, Token, WordToken, SymbolToken, NameEntry}
-use Rattle.signature.proofs.Vocabulary.{Sort, Int, Text, Part, AreNamed, entry_tokens, mark_tokens, sort_token}
-use Rattle.signature.proofs.Vocabulary.{sort_tokens, entries_tokens, CanBeginSignature, SignatureState, made_entry}
-use Rattle.signature.proofs.Vocabulary.{state_after_token, word_sort, OpenParen, CloseParen, Comma, Semicolon}
-use Rattle.signature.proofs.Vocabulary.{PlusMinus, Plus, Minus}
+use Rattle.signature.proofs.Vocabulary.{◌≡◌, ℕ, ◌<◌, Bool, true, false, cond, List, [], ◌∷◌, ◌++◌, length, codes, None, Some, refl, sym, ap, subst, ◌∙◌, arith, append_assoc, length-append, flat_map}
+use Rattle.signature.proofs.Vocabulary.{IsTrue, bytes_eq, append-nil, All-push, bytes_eq-Decides, same_Some, is_name, Token, WordToken, SymbolToken, NameEntry, Sort, Int, Text, Part, AreNamed}
+use Rattle.signature.proofs.Vocabulary.{entry_tokens, mark_tokens, sort_token, sort_tokens, entries_tokens, CanBeginSignature, SignatureState, made_entry, state_after_token, word_sort, OpenParen}
+use Rattle.signature.proofs.Vocabulary.{CloseParen, Comma, Semicolon, PlusMinus, Plus, Minus}
 use Rattle.signature.proofs.Fits.{chosen_some, sort_taken}
 use Rattle.signature.specs.declared.reading.Part.TheVariants as parts
 

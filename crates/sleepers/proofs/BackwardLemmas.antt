@@ -1,12 +1,8 @@
 -- A walk over groups from the last to the first.
-use Rattle.sleepers.proofs.Vocabulary.{◌≡◌, true, false, ℕ, ◌+◌, ◌-◌, ◌<◌, List, [], ◌∷◌}
-use Rattle.sleepers.proofs.Vocabulary.{◌++◌, Contains, Option, None, Some, IsSome, inl, inr, ⊎_elim, sym, ap}
-use Rattle.sleepers.proofs.Vocabulary.{subst, ◌∙◌, arith, append-nil, drop, length, reverse, slice_get, take}
-use Rattle.sleepers.proofs.Vocabulary.{AllByRecursion, option_to_list, reverse-append, take_more, Contains-permutation}
-use Rattle.sleepers.proofs.Vocabulary.{IsPermutation-reverse, IsPermutation-sym, get_or_from_slice_get}
-use Rattle.sleepers.proofs.Vocabulary.{slice_get_within, Split, AllByRecursion-contains, AllByRecursion-from_contains}
-use Rattle.sleepers.proofs.Vocabulary.{HasNoRepeats-push, HasNoRepeats, Event, AreAwake, AreRewound, StandsAwake}
-use Rattle.sleepers.proofs.Vocabulary.{entries_at, group_at, Entry}
+use Rattle.sleepers.proofs.Vocabulary.{◌≡◌, true, false, ℕ, ◌+◌, ◌-◌, ◌<◌, List, [], ◌∷◌, ◌++◌, Contains, Option, None, Some, IsSome, inl, inr, ⊎_elim, sym, ap, subst, ◌∙◌, arith, append-nil, drop}
+use Rattle.sleepers.proofs.Vocabulary.{length, reverse, slice_get, take, AllByRecursion, option_to_list, reverse-append, take_more, Contains-permutation, IsPermutation-reverse, IsPermutation-sym}
+use Rattle.sleepers.proofs.Vocabulary.{get_or_from_slice_get, slice_get_within, Split, AllByRecursion-contains, AllByRecursion-from_contains, HasNoRepeats-push, HasNoRepeats, Event, AreAwake}
+use Rattle.sleepers.proofs.Vocabulary.{AreRewound, StandsAwake, entries_at, group_at, Entry}
 use Rattle.std.proofs.Common.{take_all}
 
 -- what `last` tells

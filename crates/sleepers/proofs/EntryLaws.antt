@@ -1,6 +1,5 @@
 -- Lists of entries that have one entry more or less.
-use Rattle.sleepers.proofs.Vocabulary.{first_or_later, later, ⊎_elim, arith, subst, sym, Entry, ArePlaced}
-use Rattle.sleepers.proofs.Vocabulary.{HasOneMoreEntry, entry_places, Place}
+use Rattle.sleepers.proofs.Vocabulary.{first_or_later, later, ⊎_elim, arith, subst, sym, Entry, ArePlaced, HasOneMoreEntry, entry_places, Place}
 use Rattle.std.specs.Prelude.{List, [], ◌∷◌, ◌++◌, Contains}
 
 module _ {T : Type 0} where

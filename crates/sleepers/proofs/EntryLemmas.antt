@@ -1,7 +1,5 @@
 -- Lists of entries in the order of their places.
-use Rattle.sleepers.proofs.Vocabulary.{◌≡◌, List, [], ◌∷◌, ◌++◌, Contains, ◌⊎◌, inl, inr}
-use Rattle.sleepers.proofs.Vocabulary.{⊎_elim, refl, ap, arith, Bor, later, first_or_later, none_in_nil, entry_places}
-use Rattle.sleepers.proofs.Vocabulary.{shown, Place, Entry}
+use Rattle.sleepers.proofs.Vocabulary.{◌≡◌, List, [], ◌∷◌, ◌++◌, Contains, ◌⊎◌, inl, inr, ⊎_elim, refl, ap, arith, Bor, later, first_or_later, none_in_nil, entry_places, shown, Place, Entry}
 
 module _ {T : Type 0} where
   -- ---- one entry more

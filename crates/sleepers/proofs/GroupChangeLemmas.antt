@@ -1,9 +1,6 @@
 -- A group that changes at its cursor.
-use Rattle.sleepers.proofs.Vocabulary.{◌≡◌, ℕ, ◌<◌, Bool, true, false, true≢false, not, List, []}
-use Rattle.sleepers.proofs.Vocabulary.{◌∷◌, ◌++◌, Option, None, Some, IfSome, IfNone, IsNone, refl, sym, ap}
-use Rattle.sleepers.proofs.Vocabulary.{subst, ◌∙◌, append_assoc, append-nil, drop, take, get_or, length, set}
-use Rattle.sleepers.proofs.Vocabulary.{option_to_list, get_or_default, set-get_or, Split, items, HasIn, entries_at}
-use Rattle.sleepers.proofs.Vocabulary.{group_at, held, Entry}
+use Rattle.sleepers.proofs.Vocabulary.{◌≡◌, ℕ, ◌<◌, Bool, true, false, true≢false, not, List, [], ◌∷◌, ◌++◌, Option, None, Some, IfSome, IfNone, IsNone, refl, sym, ap, subst, ◌∙◌, append_assoc}
+use Rattle.sleepers.proofs.Vocabulary.{append-nil, drop, take, get_or, length, set, option_to_list, get_or_default, set-get_or, Split, items, HasIn, entries_at, group_at, held, Entry}
 use Rattle.sleepers.proofs.GroupLemmas.{at_set, held_fewer, held_more, held_set}
 
 module _ {T : Type 0} (groups : List (Split (Entry T))) (number : ℕ) (old new : Split (Entry T)) (within : number < length groups)

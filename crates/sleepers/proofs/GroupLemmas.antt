@@ -1,11 +1,8 @@
 -- Entries in groups.
-use Rattle.sleepers.proofs.Vocabulary.{◌≡◌, ℕ, zero, suc, ◌<◌, List, [], ◌∷◌, ◌++◌, Contains}
-use Rattle.sleepers.proofs.Vocabulary.{Option, None, Some, ◌⊎◌, inl, inr, ⊎_elim, refl, sym, ap, subst}
-use Rattle.sleepers.proofs.Vocabulary.{◌∙◌, arith, length, append_assoc, set, AllByRecursion, Split, items, here}
-use Rattle.sleepers.proofs.Vocabulary.{later, first_or_later, none_in_nil, Contains-append, AllByRecursion-contains}
-use Rattle.sleepers.proofs.Vocabulary.{HasNoRepeats, Event, IsAllBut, IsAsleep, entry_places, AreAwake, AreRewound}
-use Rattle.sleepers.proofs.Vocabulary.{HasIn, IsWalk, OthersStay, StandsAwake, StayGroups, WakeAlike, ahead_of}
-use Rattle.sleepers.proofs.Vocabulary.{by_place, entries_at, entries_of, group_at, held, Entry}
+use Rattle.sleepers.proofs.Vocabulary.{◌≡◌, ℕ, zero, suc, ◌<◌, List, [], ◌∷◌, ◌++◌, Contains, Option, None, Some, ◌⊎◌, inl, inr, ⊎_elim, refl, sym, ap, subst, ◌∙◌, arith, length, append_assoc, set}
+use Rattle.sleepers.proofs.Vocabulary.{AllByRecursion, Split, items, here, later, first_or_later, none_in_nil, Contains-append, AllByRecursion-contains, HasNoRepeats, Event, IsAllBut, IsAsleep}
+use Rattle.sleepers.proofs.Vocabulary.{entry_places, AreAwake, AreRewound, HasIn, IsWalk, OthersStay, StandsAwake, StayGroups, WakeAlike, ahead_of, by_place, entries_at, entries_of, group_at, held}
+use Rattle.sleepers.proofs.Vocabulary.{Entry}
 use Rattle.sleepers.proofs.EntryLemmas.{in_places}
 use Rattle.sleepers.proofs.PlaceListLemmas.{by_place_has, by_place_in}
 use Rattle.sleepers.proofs.StepLemmas.{apart_once, from_left, from_right}

@@ -1,10 +1,7 @@
 -- A look at each of the groups.
-use Rattle.sleepers.proofs.Vocabulary.{◌≡◌, ℕ, ◌+◌, ◌<◌, ◌≤◌, List, [], ◌∷◌, ◌++◌}
-use Rattle.sleepers.proofs.Vocabulary.{Contains, ◌⊎◌, inl, inr, ⊎_elim, sym, subst, ap, ◌∙◌, arith}
-use Rattle.sleepers.proofs.Vocabulary.{length, append-nil, AllByRecursion, flat_map-append, Contains-append_left}
-use Rattle.sleepers.proofs.Vocabulary.{Contains-push, Contains-push_cases, Split, AllByRecursion-append, none_in_nil}
-use Rattle.sleepers.proofs.Vocabulary.{HasNoRepeats-push, HasNoRepeats, Event, IsAsleep, AreAwake, StandsAsleep}
-use Rattle.sleepers.proofs.Vocabulary.{StandsAwake, entries_at, entries_of, Entry}
+use Rattle.sleepers.proofs.Vocabulary.{◌≡◌, ℕ, ◌+◌, ◌<◌, ◌≤◌, List, [], ◌∷◌, ◌++◌, Contains, ◌⊎◌, inl, inr, ⊎_elim, sym, subst, ap, ◌∙◌, arith, length, append-nil, AllByRecursion, flat_map-append}
+use Rattle.sleepers.proofs.Vocabulary.{Contains-append_left, Contains-push, Contains-push_cases, Split, AllByRecursion-append, none_in_nil, HasNoRepeats-push, HasNoRepeats, Event, IsAsleep, AreAwake}
+use Rattle.sleepers.proofs.Vocabulary.{StandsAsleep, StandsAwake, entries_at, entries_of, Entry}
 use Rattle.sleepers.proofs.GroupLemmas.{within_at}
 use Rattle.sleepers.proofs.NotedGroupLemmas.{below_next}
 

@@ -1,10 +1,7 @@
 -- A walk over groups.
-use Rattle.sleepers.proofs.Vocabulary.{◌≡◌, ℕ, ◌-◌, Bool, true, not, List, [], ◌∷◌, ◌++◌, Option}
-use Rattle.sleepers.proofs.Vocabulary.{None, Some, IfSome, IsNone, ◌⊎◌, inl, inr, ⊎_elim, refl, sym, ap, subst}
-use Rattle.sleepers.proofs.Vocabulary.{◌∙◌, arith, drop, length, Bor, is_some, option_to_list, Split}
-use Rattle.sleepers.proofs.Vocabulary.{HasNoRepeats, Event, HasOneMoreEntry, entry_places, AreAwake, AreKept, AreNoted}
-use Rattle.sleepers.proofs.Vocabulary.{AreRewound, HasIn, IsWalk, OthersStay, ahead_of, by_place, entries_at, group_at}
-use Rattle.sleepers.proofs.Vocabulary.{held, Noted, Entry}
+use Rattle.sleepers.proofs.Vocabulary.{◌≡◌, ℕ, ◌-◌, Bool, true, not, List, [], ◌∷◌, ◌++◌, Option, None, Some, IfSome, IsNone, ◌⊎◌, inl, inr, ⊎_elim, refl, sym, ap, subst, ◌∙◌, arith, drop, length}
+use Rattle.sleepers.proofs.Vocabulary.{Bor, is_some, option_to_list, Split, HasNoRepeats, Event, HasOneMoreEntry, entry_places, AreAwake, AreKept, AreNoted, AreRewound, HasIn, IsWalk, OthersStay}
+use Rattle.sleepers.proofs.Vocabulary.{ahead_of, by_place, entries_at, group_at, held, Noted, Entry}
 use Rattle.sleepers.proofs.GroupLemmas.{begun_walk, walk_ahead, walk_on, walk_rest}
 use Rattle.sleepers.proofs.NotedGroupLemmas.{noted_same, noted_take}
 use Rattle.sleepers.proofs.PlaceListLemmas.{apart_fewer, by_place_more, in_length}

@@ -1,11 +1,8 @@
 -- Keys of patterns, and what decides whether an event is of one.
-use Rattle.sleepers.proofs.Vocabulary.{◌≡◌, ℕ, ◌≤◌, Bool, true, false, true≢false, List, [], ◌∷◌}
-use Rattle.sleepers.proofs.Vocabulary.{Contains, Option, None, Some, ◌⊎◌, inl, inr, ⊎_elim, refl, sym, ap}
-use Rattle.sleepers.proofs.Vocabulary.{subst, ◌∙◌, arith, Decides, pointwise, option_eq, cases_eq, false≢true}
-use Rattle.sleepers.proofs.Vocabulary.{Decides-and, Decides-eqb, Decides-like, none-some, same_Some, slice_eq-Decides}
-use Rattle.sleepers.proofs.Vocabulary.{value_eq, value_eq-Decides, derived_value_eq-Decides, here, later}
-use Rattle.sleepers.proofs.Vocabulary.{first_or_later, none_in_nil, Event, NameId, Value, fixed_of, masked_values}
-use Rattle.sleepers.proofs.Vocabulary.{shape_of, FitArgs, HasNone, MatchesPattern, MatchesNone, Shape, Pattern}
+use Rattle.sleepers.proofs.Vocabulary.{◌≡◌, ℕ, ◌≤◌, Bool, true, false, true≢false, List, [], ◌∷◌, Contains, Option, None, Some, ◌⊎◌, inl, inr, ⊎_elim, refl, sym, ap, subst, ◌∙◌, arith, Decides}
+use Rattle.sleepers.proofs.Vocabulary.{pointwise, option_eq, cases_eq, false≢true, Decides-and, Decides-eqb, Decides-like, none-some, same_Some, slice_eq-Decides, value_eq, value_eq-Decides}
+use Rattle.sleepers.proofs.Vocabulary.{derived_value_eq-Decides, here, later, first_or_later, none_in_nil, Event, NameId, Value, fixed_of, masked_values, shape_of, FitArgs, HasNone, MatchesPattern}
+use Rattle.sleepers.proofs.Vocabulary.{MatchesNone, Shape, Pattern}
 use Rattle.sleepers.specs.machine.PatternKeys.{pattern_key}
 use Rattle.enf_data.specs.contracts.values.ValuePartialEq.TheImpl as values
 use Rattle.sleepers.specs.contracts.patterns.PatternPartialEq.TheImpl as derived

@@ -1,7 +1,6 @@
 -- The next item of a list that is gone over.
-use Rattle.sleepers.proofs.Vocabulary.{◌≡◌, ℕ, ◌+◌, ◌<◌, List, [], ◌∷◌, ◌++◌, Contains}
-use Rattle.sleepers.proofs.Vocabulary.{◌⊎◌, sym, subst, ap, ◌∙◌, length, take, get_or, AllByRecursion}
-use Rattle.sleepers.proofs.Vocabulary.{take_more, Contains-push_cases, AllByRecursion-append}
+use Rattle.sleepers.proofs.Vocabulary.{◌≡◌, ℕ, ◌+◌, ◌<◌, List, [], ◌∷◌, ◌++◌, Contains, ◌⊎◌, sym, subst, ap, ◌∙◌, length, take, get_or, AllByRecursion, take_more, Contains-push_cases}
+use Rattle.sleepers.proofs.Vocabulary.{AllByRecursion-append}
 
 module _ {X : Type 0} where
   one_more : (xs : List X) (i : ℕ) (x : X) → i < length xs → x ≡ get_or xs i x → take (i + 1) xs ≡ take i xs ++ x ∷ []

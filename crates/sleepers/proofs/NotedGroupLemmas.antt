@@ -1,19 +1,12 @@
 -- Groups that are noted under what wakes their entries.
-use Rattle.sleepers.proofs.Vocabulary.{Bool, true, false, ◌≡◌, ℕ, ◌<◌, ◌≤◌, ◌+◌, List, []}
-use Rattle.sleepers.proofs.Vocabulary.{◌∷◌, ◌++◌, Contains, Option, None, Some, ◌⊎◌, inl, inr, ⊎_elim}
-use Rattle.sleepers.proofs.Vocabulary.{refl, sym, ap, subst, subst₂, ◌∙◌, arith, length, length-append}
-use Rattle.sleepers.proofs.Vocabulary.{append-nil, AllByRecursion, items_where_true, option_to_list, IsFiltered}
-use Rattle.sleepers.proofs.Vocabulary.{ReturnsInTurn, cases_eq, cases_lt, Split, items, here, later, first_or_later}
-use Rattle.sleepers.proofs.Vocabulary.{none_in_nil, AllByRecursion-contains, AllByRecursion-weaker, HasNoRepeats, Event}
-use Rattle.sleepers.proofs.Vocabulary.{IsAsleep, IsFreePlace, entry_places, AreAlike, AreAwake, AreKept, AreNoted}
-use Rattle.sleepers.proofs.Vocabulary.{AreRewound, HasIn, OthersStay, StandsAsleep, StandsAwake, StayGroups, Suits}
-use Rattle.sleepers.proofs.Vocabulary.{WakeAlike, by_place, entries_at, group_at, held, CanBeFound, IsGroupFound}
-use Rattle.sleepers.proofs.Vocabulary.{IsNoted, KeepsAll, KeepsOthers, Noted, PatternsSleep, awake_from}
-use Rattle.sleepers.proofs.Vocabulary.{listed_patterns, Place, MatchesPattern, Entry, Pattern}
+use Rattle.sleepers.proofs.Vocabulary.{Bool, true, false, ◌≡◌, ℕ, ◌<◌, ◌≤◌, ◌+◌, List, [], ◌∷◌, ◌++◌, Contains, Option, None, Some, ◌⊎◌, inl, inr, ⊎_elim, refl, sym, ap, subst, subst₂, ◌∙◌, arith}
+use Rattle.sleepers.proofs.Vocabulary.{length, length-append, append-nil, AllByRecursion, items_where_true, option_to_list, IsFiltered, ReturnsInTurn, cases_eq, cases_lt, Split, items, here, later}
+use Rattle.sleepers.proofs.Vocabulary.{first_or_later, none_in_nil, AllByRecursion-contains, AllByRecursion-weaker, HasNoRepeats, Event, IsAsleep, IsFreePlace, entry_places, AreAlike, AreAwake}
+use Rattle.sleepers.proofs.Vocabulary.{AreKept, AreNoted, AreRewound, HasIn, OthersStay, StandsAsleep, StandsAwake, StayGroups, Suits, WakeAlike, by_place, entries_at, group_at, held, CanBeFound}
+use Rattle.sleepers.proofs.Vocabulary.{IsGroupFound, IsNoted, KeepsAll, KeepsOthers, Noted, PatternsSleep, awake_from, listed_patterns, Place, MatchesPattern, Entry, Pattern}
 use Rattle.sleepers.specs.machine.PatternKeys.{pattern_key}
 use Rattle.sleepers.proofs.EntryLemmas.{in_places}
-use Rattle.sleepers.proofs.GroupLemmas.{alike_back, alike_itself, alike_on, asleep_alike, fresh_at, fresh_held}
-use Rattle.sleepers.proofs.GroupLemmas.{held_has, nothing}
+use Rattle.sleepers.proofs.GroupLemmas.{alike_back, alike_itself, alike_on, asleep_alike, fresh_at, fresh_held, held_has, nothing}
 use Rattle.sleepers.proofs.KeyLemmas.{none_or}
 use Rattle.sleepers.proofs.PlaceListLemmas.{apart_more, at_place, by_place_has, in_keeps, in_length, in_of}
 

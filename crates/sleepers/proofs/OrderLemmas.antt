@@ -1,10 +1,7 @@
 -- The order of places, and what keeps it.
-use Rattle.sleepers.proofs.Vocabulary.{◌≡◌, ◌↔◌, ℕ, zero, suc, ◌<◌, ◌≤◌, Bool, true, false}
-use Rattle.sleepers.proofs.Vocabulary.{cond, List, [], ◌∷◌, ◌++◌, Contains, ◌⊎◌, inl, inr, ⊎_elim}
-use Rattle.sleepers.proofs.Vocabulary.{refl, sym, ap, subst, ◌∙◌, arith, map, AllByRecursion, cases_order, here}
-use Rattle.sleepers.proofs.Vocabulary.{later, first_or_later, none_in_nil, Contains-append, Beginning, beginning_at}
-use Rattle.sleepers.proofs.Vocabulary.{Place, BeginsBefore, IsPlaceBefore, ArePlacesInOrder, WasMade, places_from}
-use Rattle.sleepers.proofs.Vocabulary.{PlaceChange, places_of, places_behind}
+use Rattle.sleepers.proofs.Vocabulary.{◌≡◌, ◌↔◌, ℕ, zero, suc, ◌<◌, ◌≤◌, Bool, true, false, cond, List, [], ◌∷◌, ◌++◌, Contains, ◌⊎◌, inl, inr, ⊎_elim, refl, sym, ap, subst, ◌∙◌, arith, map}
+use Rattle.sleepers.proofs.Vocabulary.{AllByRecursion, cases_order, here, later, first_or_later, none_in_nil, Contains-append, Beginning, beginning_at, Place, BeginsBefore, IsPlaceBefore}
+use Rattle.sleepers.proofs.Vocabulary.{ArePlacesInOrder, WasMade, places_from, PlaceChange, places_of, places_behind}
 
 -- ---- a strict order
 

@@ -1,13 +1,8 @@
 -- Sets of numbers and of pairs of numbers, as lists in order.
-use Rattle.sleepers.proofs.Vocabulary.{Option, None, IsSome, length, ◌≡◌, ℕ, ◌<◌, ◌≤◌, ◌-◌}
-use Rattle.sleepers.proofs.Vocabulary.{◌^◌, Bool, true, false, true≢false, cond, not, ◌&&◌, List, []}
-use Rattle.sleepers.proofs.Vocabulary.{◌∷◌, ◌++◌, Contains, ◌⊎◌, inl, inr, ⊎_elim, refl, sym, ap}
-use Rattle.sleepers.proofs.Vocabulary.{subst, subst₂, ◌∙◌, arith, is_at, IsLeBy, range_contains, insert_key}
-use Rattle.sleepers.proofs.Vocabulary.{AllByRecursion, filter, is_some, is_eq, is_gt, is_le, is_lt, match_ordering}
-use Rattle.sleepers.proofs.Vocabulary.{nat_cmp, ordering_then, remove_key, Ordering, Less, Equal, Greater, Included}
-use Rattle.sleepers.proofs.Vocabulary.{Contains-append_left, Contains-push, Contains-push_cases, le_from_not_gt}
-use Rattle.sleepers.proofs.Vocabulary.{sorted_head, sorted_tail, here, later, first_or_later, none_in_nil}
-use Rattle.sleepers.proofs.Vocabulary.{AllByRecursion-contains, HasNoRepeats}
+use Rattle.sleepers.proofs.Vocabulary.{Option, None, IsSome, length, ◌≡◌, ℕ, ◌<◌, ◌≤◌, ◌-◌, ◌^◌, Bool, true, false, true≢false, cond, not, ◌&&◌, List, [], ◌∷◌, ◌++◌, Contains, ◌⊎◌, inl, inr, ⊎_elim}
+use Rattle.sleepers.proofs.Vocabulary.{refl, sym, ap, subst, subst₂, ◌∙◌, arith, is_at, IsLeBy, range_contains, insert_key, AllByRecursion, filter, is_some, is_eq, is_gt, is_le, is_lt, match_ordering}
+use Rattle.sleepers.proofs.Vocabulary.{nat_cmp, ordering_then, remove_key, Ordering, Less, Equal, Greater, Included, Contains-append_left, Contains-push, Contains-push_cases, le_from_not_gt}
+use Rattle.sleepers.proofs.Vocabulary.{sorted_head, sorted_tail, here, later, first_or_later, none_in_nil, AllByRecursion-contains, HasNoRepeats}
 use Rattle.std.specs.List.Sorted.{IsStrictlySortedBy}
 
 -- ---- a key that is put in

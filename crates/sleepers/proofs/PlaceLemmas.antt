@@ -1,9 +1,7 @@
 -- The order of places, as a comparison tells it.
-use Rattle.sleepers.proofs.Vocabulary.{◌≡◌, ◌↔◌, ◌<◌, true, false, true≢false, [], ◌∷◌}
-use Rattle.sleepers.proofs.Vocabulary.{⊎_elim, refl, sym, ap, subst, ◌∙◌, arith, IsTotalOrder, is_lt, nat_cmp}
-use Rattle.sleepers.proofs.Vocabulary.{ordering_then, ordering_reverse, Ordering, Less, Equal, Greater, lists_total}
-use Rattle.sleepers.proofs.Vocabulary.{nat_cmp_total, on_total, then_total, tied_itself, Less_from_test, BeginsBefore}
-use Rattle.sleepers.proofs.Vocabulary.{IsPlaceBefore, Place, beginning_cmp, place_cmp, Beginning}
+use Rattle.sleepers.proofs.Vocabulary.{◌≡◌, ◌↔◌, ◌<◌, true, false, true≢false, [], ◌∷◌, ⊎_elim, refl, sym, ap, subst, ◌∙◌, arith, IsTotalOrder, is_lt, nat_cmp, ordering_then, ordering_reverse}
+use Rattle.sleepers.proofs.Vocabulary.{Ordering, Less, Equal, Greater, lists_total, nat_cmp_total, on_total, then_total, tied_itself, Less_from_test, BeginsBefore, IsPlaceBefore, Place, beginning_cmp}
+use Rattle.sleepers.proofs.Vocabulary.{place_cmp, Beginning}
 use Rattle.sleepers.proofs.OrderLemmas.{place_order}
 
 beginning_total : IsTotalOrder beginning_cmp

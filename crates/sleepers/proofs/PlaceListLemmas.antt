@@ -1,9 +1,7 @@
 -- Lists that are put in the order of their places, and lists in this order.
-use Rattle.sleepers.proofs.Vocabulary.{◌≡◌, ◌+◌, suc, Bool, true, false, cond, List, [], ◌∷◌, ◌++◌}
-use Rattle.sleepers.proofs.Vocabulary.{Contains, ◌⊎◌, inl, inr, ⊎_elim, refl, sym, ap, subst, ◌∙◌, arith}
-use Rattle.sleepers.proofs.Vocabulary.{length, length-append, is_lt, here, later, first_or_later, none_in_nil}
-use Rattle.sleepers.proofs.Vocabulary.{HasNoRepeats, AllButThose, ArePlaced, HasOneMoreEntry, IsFreePlace, entry_places}
-use Rattle.sleepers.proofs.Vocabulary.{HasIn, by_place, put_by_place, IsPlaceBefore, Place, place_cmp, Entry}
+use Rattle.sleepers.proofs.Vocabulary.{◌≡◌, ◌+◌, suc, Bool, true, false, cond, List, [], ◌∷◌, ◌++◌, Contains, ◌⊎◌, inl, inr, ⊎_elim, refl, sym, ap, subst, ◌∙◌, arith, length, length-append, is_lt}
+use Rattle.sleepers.proofs.Vocabulary.{here, later, first_or_later, none_in_nil, HasNoRepeats, AllButThose, ArePlaced, HasOneMoreEntry, IsFreePlace, entry_places, HasIn, by_place, put_by_place}
+use Rattle.sleepers.proofs.Vocabulary.{IsPlaceBefore, Place, place_cmp, Entry}
 use Rattle.sleepers.proofs.EntryLemmas.{in_fewer, in_places}
 use Rattle.sleepers.proofs.OrderLemmas.{before_else, before_on, not_back, not_itself}
 use Rattle.sleepers.proofs.PlaceLemmas.{before_from_test, not_before_from_test}

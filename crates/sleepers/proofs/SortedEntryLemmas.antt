@@ -1,14 +1,9 @@
 -- References to entries that are sorted by place.
-use Rattle.sleepers.proofs.Vocabulary.{◌≡◌, ℕ, ◌+◌, true, false, true≢false, List, [], ◌∷◌}
-use Rattle.sleepers.proofs.Vocabulary.{Contains, inl, inr, ⊎_elim, refl, sym, ap, subst, ◌∙◌, arith, length}
-use Rattle.sleepers.proofs.Vocabulary.{map, get_or, Bor, IsPermutation, IsSortedByKey, eq_by_cmp, is_eq, is_lt}
-use Rattle.sleepers.proofs.Vocabulary.{ordering_reverse, Ordering, Less, Equal, Greater, eq_by_cmp_equiv, get_or-map}
-use Rattle.sleepers.proofs.Vocabulary.{length-map, Contains-permutation, IsPermutation-map, IsPermutation-sym}
-use Rattle.sleepers.proofs.Vocabulary.{IsDistinct-IsPermutation, IsDistinct-cons, apart_from_distinct}
-use Rattle.sleepers.proofs.Vocabulary.{sorted_from_all_adjacent, sorted_head, sorted_tail, false_from_ne_true, Split}
-use Rattle.sleepers.proofs.Vocabulary.{here, later, AllByRecursion-contains, AllByRecursion-from_contains, HasNoRepeats}
-use Rattle.sleepers.proofs.Vocabulary.{Event, AllButThose, ArePlaced, IsAsleep, entry_places, shown, AreAwake, by_place}
-use Rattle.sleepers.proofs.Vocabulary.{entries_of, held, ArePlacesInOrder, Place, place_cmp, Entry}
+use Rattle.sleepers.proofs.Vocabulary.{◌≡◌, ℕ, ◌+◌, true, false, true≢false, List, [], ◌∷◌, Contains, inl, inr, ⊎_elim, refl, sym, ap, subst, ◌∙◌, arith, length, map, get_or, Bor, IsPermutation}
+use Rattle.sleepers.proofs.Vocabulary.{IsSortedByKey, eq_by_cmp, is_eq, is_lt, ordering_reverse, Ordering, Less, Equal, Greater, eq_by_cmp_equiv, get_or-map, length-map, Contains-permutation}
+use Rattle.sleepers.proofs.Vocabulary.{IsPermutation-map, IsPermutation-sym, IsDistinct-IsPermutation, IsDistinct-cons, apart_from_distinct, sorted_from_all_adjacent, sorted_head, sorted_tail}
+use Rattle.sleepers.proofs.Vocabulary.{false_from_ne_true, Split, here, later, AllByRecursion-contains, AllByRecursion-from_contains, HasNoRepeats, Event, AllButThose, ArePlaced, IsAsleep}
+use Rattle.sleepers.proofs.Vocabulary.{entry_places, shown, AreAwake, by_place, entries_of, held, ArePlacesInOrder, Place, place_cmp, Entry}
 use Rattle.std.specs.List.{IsDistinct}
 use Rattle.std.specs.List.Sorted.{IsStrictlySortedBy}
 use Rattle.sleepers.proofs.GroupLemmas.{of_once, placed_once, woken_others, woken_without}

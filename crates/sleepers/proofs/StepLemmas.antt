@@ -1,14 +1,9 @@
 -- Steps over entries.
-use Rattle.sleepers.proofs.Vocabulary.{◌≡◌, ◌↔◌, ℕ, suc, ◌<◌, Bool, true, false, true≢false, cond}
-use Rattle.sleepers.proofs.Vocabulary.{List, [], ◌∷◌, ◌++◌, Contains, ◌⊎◌, inl, inr, ⊎_elim, refl}
-use Rattle.sleepers.proofs.Vocabulary.{sym, ap, subst, subst₂, ◌∙◌, arith, length, length-append, map, drop}
-use Rattle.sleepers.proofs.Vocabulary.{get_or, AllByRecursion, here, later, first_or_later, none_in_nil}
-use Rattle.sleepers.proofs.Vocabulary.{Contains-append, AllByRecursion-contains, AllByRecursion-from_contains}
-use Rattle.sleepers.proofs.Vocabulary.{HasNoRepeats, ArePlaced, HasOneMoreEntry, IsFreePlace, entry_places}
-use Rattle.sleepers.proofs.Vocabulary.{ArePlacesInOrder, PlaceChange, IsPlaceBefore, Place, WasMade, places_behind}
-use Rattle.sleepers.proofs.Vocabulary.{places_from, beginning_at, CanPutIn, OutcomeGoesOn, IsInOrder, IsOneOr, IsStep}
-use Rattle.sleepers.proofs.Vocabulary.{EntryOutcome, PutsInEntries, TakesOutEntries, begun_entries, entries_behind}
-use Rattle.sleepers.proofs.Vocabulary.{gone_entries, Entry, Beginning}
+use Rattle.sleepers.proofs.Vocabulary.{◌≡◌, ◌↔◌, ℕ, suc, ◌<◌, Bool, true, false, true≢false, cond, List, [], ◌∷◌, ◌++◌, Contains, ◌⊎◌, inl, inr, ⊎_elim, refl, sym, ap, subst, subst₂, ◌∙◌, arith}
+use Rattle.sleepers.proofs.Vocabulary.{length, length-append, map, drop, get_or, AllByRecursion, here, later, first_or_later, none_in_nil, Contains-append, AllByRecursion-contains}
+use Rattle.sleepers.proofs.Vocabulary.{AllByRecursion-from_contains, HasNoRepeats, ArePlaced, HasOneMoreEntry, IsFreePlace, entry_places, ArePlacesInOrder, PlaceChange, IsPlaceBefore, Place, WasMade}
+use Rattle.sleepers.proofs.Vocabulary.{places_behind, places_from, beginning_at, CanPutIn, OutcomeGoesOn, IsInOrder, IsOneOr, IsStep, EntryOutcome, PutsInEntries, TakesOutEntries, begun_entries}
+use Rattle.sleepers.proofs.Vocabulary.{entries_behind, gone_entries, Entry, Beginning}
 use Rattle.sleepers.proofs.EntryLemmas.{in_fewer, in_places}
 use Rattle.sleepers.proofs.EntryLaws.{fewer_placed}
 use Rattle.sleepers.proofs.OrderLemmas.{from_in_order, from_is, not_back, not_itself, steps_keep_order}

@@ -1,17 +1,10 @@
 -- What evaluating a plan takes: guards at their numbers, variables that have values, and rows of tables.
-use Rattle.trace_audit.proofs.Vocabulary.{◌≡◌, ℕ, zero, suc, ◌<◌, List, [], ◌∷◌, ◌++◌, length}
-use Rattle.trace_audit.proofs.Vocabulary.{map, Contains, Some, IsTrue, refl, sym, ap, subst, arith, ⊎_elim, ◌∙◌}
-use Rattle.trace_audit.proofs.Vocabulary.{◌↔◌, slice_get, IsSome, AllByRecursion, Contains-append_left}
-use Rattle.trace_audit.proofs.Vocabulary.{Contains-append_right, same_Some, none-some, AllByRecursion-contains}
-use Rattle.trace_audit.proofs.Vocabulary.{AllByRecursion-from_contains, Contains-append, HasNoRepeats, Valuation}
-use Rattle.trace_audit.proofs.Vocabulary.{value_at, with_values, BindsColumns, Step, VarId, Value, some_value, Formula}
-use Rattle.trace_audit.proofs.Vocabulary.{IsFree, Sat, new_apart, AreNewVariables, AreOpen, AreEvaluated, IsEvaluated}
-use Rattle.trace_audit.proofs.Vocabulary.{BindsBound, HasOpenColumns, IsGuard, IsTestOf, PastTables, guard_formula}
-use Rattle.trace_audit.proofs.Vocabulary.{tables_of, PlacedGuard, ColumnsAreVariables, Plan, Guarded, AtEach, FitsScope}
-use Rattle.trace_audit.proofs.Vocabulary.{agrees_once, cell_some, table_row-length, value_at-with_inside}
-use Rattle.trace_audit.proofs.Vocabulary.{value_at-with_outside, filled_fresh, filled_from_row, AgreeOnColumns}
-use Rattle.trace_audit.proofs.Vocabulary.{AgreesWithRow, IsTable, Relation, CanEvaluatePlan, IsAskable, IsAt}
-use Rattle.trace_audit.proofs.Vocabulary.{AuditMoment, guards_at, placed_guard, PlanHoldsAt}
+use Rattle.trace_audit.proofs.Vocabulary.{◌≡◌, ℕ, zero, suc, ◌<◌, List, [], ◌∷◌, ◌++◌, length, map, Contains, Some, IsTrue, refl, sym, ap, subst, arith, ⊎_elim, ◌∙◌, ◌↔◌, slice_get, IsSome}
+use Rattle.trace_audit.proofs.Vocabulary.{AllByRecursion, Contains-append_left, Contains-append_right, same_Some, none-some, AllByRecursion-contains, AllByRecursion-from_contains, Contains-append}
+use Rattle.trace_audit.proofs.Vocabulary.{HasNoRepeats, Valuation, value_at, with_values, BindsColumns, Step, VarId, Value, some_value, Formula, IsFree, Sat, new_apart, AreNewVariables, AreOpen}
+use Rattle.trace_audit.proofs.Vocabulary.{AreEvaluated, IsEvaluated, BindsBound, HasOpenColumns, IsGuard, IsTestOf, PastTables, guard_formula, tables_of, PlacedGuard, ColumnsAreVariables, Plan}
+use Rattle.trace_audit.proofs.Vocabulary.{Guarded, AtEach, FitsScope, agrees_once, cell_some, table_row-length, value_at-with_inside, value_at-with_outside, filled_fresh, filled_from_row}
+use Rattle.trace_audit.proofs.Vocabulary.{AgreeOnColumns, AgreesWithRow, IsTable, Relation, CanEvaluatePlan, IsAskable, IsAt, AuditMoment, guards_at, placed_guard, PlanHoldsAt}
 use Rattle.std.specs.Prelude.{Bool}
 use Rattle.monitorable_guard.specs.machine.Evaluation as evaluation
 

@@ -1,21 +1,12 @@
 -- What an auditor stands for, and the verdict that it gives.
-use Rattle.trace_audit.proofs.Vocabulary.{◌≡◌, ℕ, zero, suc, ◌+◌, ◌<◌, ◌≤◌, List, [], ◌∷◌}
-use Rattle.trace_audit.proofs.Vocabulary.{◌++◌, length, length-append, map, take, get_or, Option, None, Some}
-use Rattle.trace_audit.proofs.Vocabulary.{IsTrue, refl, sym, ap, subst, arith, inl, inr, ⊎_elim, ◌∙◌}
-use Rattle.trace_audit.proofs.Vocabulary.{append_assoc, AllByRecursion, append-nil, get_or-take, get_or_append_left}
-use Rattle.trace_audit.proofs.Vocabulary.{length-take-le, get_or-append_seam, none-some, same_Some, slice_get-get_or}
-use Rattle.trace_audit.proofs.Vocabulary.{IsTrace, no_step, step_at, AllByRecursion-weaker, none_in_nil, no_values}
-use Rattle.trace_audit.proofs.Vocabulary.{variable_cmp, HasNoRepeats, Event, Step, VarId, Formula, Sat, PastDecides}
-use Rattle.trace_audit.proofs.Vocabulary.{AgreeUpTo, is_past, BoundFormula, AreCopies, GuardsWillHold, IsGuard, Past}
-use Rattle.trace_audit.proofs.Vocabulary.{PastStands, PastTables, guard_formula, AreUpToTimeOf, typed_of}
-use Rattle.trace_audit.proofs.Vocabulary.{LastIsAtTheEnd, LastIsTheNew, NoneIsLater, TraceGrows, PlacedGuard}
-use Rattle.trace_audit.proofs.Vocabulary.{IsListedNode, IsSafeNode, LooksBack, EndsInTime, AreWellFormed, IsWellFormed}
-use Rattle.trace_audit.proofs.Vocabulary.{guards_of, Plan, CausePlan, SuppressPlan, Both, Either, TestOr, Guarded}
-use Rattle.trace_audit.proofs.Vocabulary.{EventuallyPlan, AlwaysPlan, UntilPlan, NextPlan, AtEach-from_nodes, AtEach}
-use Rattle.trace_audit.proofs.Vocabulary.{IsScopedNode, last_time, CanEvaluatePlan, IsAskable, Auditing, Audits, end_of}
-use Rattle.trace_audit.proofs.Vocabulary.{audited_rules, NothingElse, AreJudged, IsJudged, rule_at, IsAt, AuditMoment}
-use Rattle.trace_audit.proofs.Vocabulary.{audit_moment, placed_guard, IsVerdict, formulas_for, OpenRule, RuleAt, Holds}
-use Rattle.trace_audit.proofs.Vocabulary.{Fails}
+use Rattle.trace_audit.proofs.Vocabulary.{◌≡◌, ℕ, zero, suc, ◌+◌, ◌<◌, ◌≤◌, List, [], ◌∷◌, ◌++◌, length, length-append, map, take, get_or, Option, None, Some, IsTrue, refl, sym, ap, subst, arith, inl}
+use Rattle.trace_audit.proofs.Vocabulary.{inr, ⊎_elim, ◌∙◌, append_assoc, AllByRecursion, append-nil, get_or-take, get_or_append_left, length-take-le, get_or-append_seam, none-some, same_Some}
+use Rattle.trace_audit.proofs.Vocabulary.{slice_get-get_or, IsTrace, no_step, step_at, AllByRecursion-weaker, none_in_nil, no_values, variable_cmp, HasNoRepeats, Event, Step, VarId, Formula, Sat}
+use Rattle.trace_audit.proofs.Vocabulary.{PastDecides, AgreeUpTo, is_past, BoundFormula, AreCopies, GuardsWillHold, IsGuard, Past, PastStands, PastTables, guard_formula, AreUpToTimeOf, typed_of}
+use Rattle.trace_audit.proofs.Vocabulary.{LastIsAtTheEnd, LastIsTheNew, NoneIsLater, TraceGrows, PlacedGuard, IsListedNode, IsSafeNode, LooksBack, EndsInTime, AreWellFormed, IsWellFormed, guards_of}
+use Rattle.trace_audit.proofs.Vocabulary.{Plan, CausePlan, SuppressPlan, Both, Either, TestOr, Guarded, EventuallyPlan, AlwaysPlan, UntilPlan, NextPlan, AtEach-from_nodes, AtEach, IsScopedNode}
+use Rattle.trace_audit.proofs.Vocabulary.{last_time, CanEvaluatePlan, IsAskable, Auditing, Audits, end_of, audited_rules, NothingElse, AreJudged, IsJudged, rule_at, IsAt, AuditMoment, audit_moment}
+use Rattle.trace_audit.proofs.Vocabulary.{placed_guard, IsVerdict, formulas_for, OpenRule, RuleAt, Holds, Fails}
 use Rattle.std.specs.FinMap as finite
 
 -- ---- guards that are placed

@@ -1,14 +1,10 @@
 -- What a plan's parts ask of the steps to come is what the plan asks.
-use Rattle.trace_audit.proofs.Vocabulary.{◌≡◌, ℕ, ◌+◌, ◌<◌, ◌≤◌, List, [], ◌∷◌, ◌++◌}
-use Rattle.trace_audit.proofs.Vocabulary.{length, take, get_or, sym, ap, subst, ◌∙◌, ◌↔◌, AllByRecursion}
-use Rattle.trace_audit.proofs.Vocabulary.{take_more, AllByRecursion-append, AllByRecursion-of_append, Valuation, Step}
-use Rattle.trace_audit.proofs.Vocabulary.{Value, Formula, Sat, formula_for, Plan, TestOr, EventuallyPlan, AlwaysPlan}
-use Rattle.trace_audit.proofs.Vocabulary.{UntilPlan, plan_of, CanEvaluatePlan, IsAt, IsBegunWaiting, AuditMoment}
-use Rattle.trace_audit.proofs.Vocabulary.{TellsRest, guards_at, OperatorAsks, WaitingAsks, PlanHoldsAt, IsAllOf}
-use Rattle.trace_audit.proofs.Vocabulary.{IsAnyOf, LinksMean, Means, ClassicallyOr, Link, Residual, Waiting}
+use Rattle.trace_audit.proofs.Vocabulary.{◌≡◌, ℕ, ◌+◌, ◌<◌, ◌≤◌, List, [], ◌∷◌, ◌++◌, length, take, get_or, sym, ap, subst, ◌∙◌, ◌↔◌, AllByRecursion, take_more, AllByRecursion-append}
+use Rattle.trace_audit.proofs.Vocabulary.{AllByRecursion-of_append, Valuation, Step, Value, Formula, Sat, formula_for, Plan, TestOr, EventuallyPlan, AlwaysPlan, UntilPlan, plan_of, CanEvaluatePlan}
+use Rattle.trace_audit.proofs.Vocabulary.{IsAt, IsBegunWaiting, AuditMoment, TellsRest, guards_at, OperatorAsks, WaitingAsks, PlanHoldsAt, IsAllOf, IsAnyOf, LinksMean, Means, ClassicallyOr, Link}
+use Rattle.trace_audit.proofs.Vocabulary.{Residual, Waiting}
 use Rattle.trace_audit.proofs.ResidualLemmas.{IsClassical, all_turned, any_turned, links_more}
-use Rattle.trace_audit.proofs.WindowLemmas.{always_begun, eventually_begun, eventually_early, eventually_now}
-use Rattle.trace_audit.proofs.WindowLemmas.{until_begun, until_early, until_now}
+use Rattle.trace_audit.proofs.WindowLemmas.{always_begun, eventually_begun, eventually_early, eventually_now, until_begun, until_early, until_now}
 use Rattle.trace_audit.specs.declared.residuals.Link.TheVariants as link
 use Rattle.trace_audit.specs.declared.residuals.Residual.TheVariants as stored
 

@@ -1,15 +1,9 @@
 -- What is known of rules at positions, as one after another is settled.
-use Rattle.trace_audit.proofs.Vocabulary.{◌≡◌, ℕ, ◌+◌, List, [], ◌∷◌, ◌++◌, length, Option, None}
-use Rattle.trace_audit.proofs.Vocabulary.{Some, refl, sym, ap, subst, arith, inl, inr, ⊎_elim, ◌⊎◌, ◌∙◌}
-use Rattle.trace_audit.proofs.Vocabulary.{◌↔◌, slice_get, AllByRecursion, cases_lt, Contains-append_left}
-use Rattle.trace_audit.proofs.Vocabulary.{Contains-append_right, option_map, length-map, same_Some, slice_get-map}
-use Rattle.trace_audit.proofs.Vocabulary.{slice_get_within, AllByRecursion-append, AllByRecursion-of_append}
-use Rattle.trace_audit.proofs.Vocabulary.{AllByRecursion-weaker, first_or_later, here, none_in_nil, no_values, Step}
-use Rattle.trace_audit.proofs.Vocabulary.{VarId, Formula, Sat, formula_for, Plan, formulas_for, NothingElse}
-use Rattle.trace_audit.proofs.Vocabulary.{RulesAreMet, BeginsRules, RulesCanGoOn, FollowsAsked, FollowsOneAsked}
-use Rattle.trace_audit.proofs.Vocabulary.{IsRuleBefore, IsRuleBeforeAny, IsJudged, IsAskedFor, PutsIn, JudgesStep}
-use Rattle.trace_audit.proofs.Vocabulary.{asked_at, rule_at, IsAt, AuditMoment, TellsRest, ResidualCanGoOn, PlanHoldsAt}
-use Rattle.trace_audit.proofs.Vocabulary.{Means, IsBroken, Followed, OpenRule, Residual, RuleAt}
+use Rattle.trace_audit.proofs.Vocabulary.{◌≡◌, ℕ, ◌+◌, List, [], ◌∷◌, ◌++◌, length, Option, None, Some, refl, sym, ap, subst, arith, inl, inr, ⊎_elim, ◌⊎◌, ◌∙◌, ◌↔◌, slice_get, AllByRecursion}
+use Rattle.trace_audit.proofs.Vocabulary.{cases_lt, Contains-append_left, Contains-append_right, option_map, length-map, same_Some, slice_get-map, slice_get_within, AllByRecursion-append}
+use Rattle.trace_audit.proofs.Vocabulary.{AllByRecursion-of_append, AllByRecursion-weaker, first_or_later, here, none_in_nil, no_values, Step, VarId, Formula, Sat, formula_for, Plan, formulas_for}
+use Rattle.trace_audit.proofs.Vocabulary.{NothingElse, RulesAreMet, BeginsRules, RulesCanGoOn, FollowsAsked, FollowsOneAsked, IsRuleBefore, IsRuleBeforeAny, IsJudged, IsAskedFor, PutsIn, JudgesStep}
+use Rattle.trace_audit.proofs.Vocabulary.{asked_at, rule_at, IsAt, AuditMoment, TellsRest, ResidualCanGoOn, PlanHoldsAt, Means, IsBroken, Followed, OpenRule, Residual, RuleAt}
 use Rattle.trace_audit.specs.declared.residuals.Residual.TheVariants as stored
 
 -- ---- the order

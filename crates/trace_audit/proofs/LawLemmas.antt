@@ -1,10 +1,7 @@
 -- There is one verdict, and policies that mean the same have the same one.
-use Rattle.trace_audit.proofs.Vocabulary.{◌≡◌, ℕ, zero, suc, ◌<◌, List, [], ◌∷◌, length, get_or, Some}
-use Rattle.trace_audit.proofs.Vocabulary.{refl, sym, subst, slice_get, AllZip, get_or_from_slice_get, none-some}
-use Rattle.trace_audit.proofs.Vocabulary.{same_Some, slice_get-get_or, slice_get_within, no_values, Step}
-use Rattle.trace_audit.proofs.Vocabulary.{eq_from_neither_less, Formula, Sat, PlanMeans, PolicyKeepsMeaning}
-use Rattle.trace_audit.proofs.Vocabulary.{formula_for, Plan, formulas_for, Satisfies, VerdictIsOfPolicy, VerdictIsOne}
-use Rattle.trace_audit.proofs.Vocabulary.{HoldsAt, IsBroken, IsFirstBroken, IsVerdict, Verdict, Holds, Fails}
+use Rattle.trace_audit.proofs.Vocabulary.{◌≡◌, ℕ, zero, suc, ◌<◌, List, [], ◌∷◌, length, get_or, Some, refl, sym, subst, slice_get, AllZip, get_or_from_slice_get, none-some, same_Some}
+use Rattle.trace_audit.proofs.Vocabulary.{slice_get-get_or, slice_get_within, no_values, Step, eq_from_neither_less, Formula, Sat, PlanMeans, PolicyKeepsMeaning, formula_for, Plan, formulas_for}
+use Rattle.trace_audit.proofs.Vocabulary.{Satisfies, VerdictIsOfPolicy, VerdictIsOne, HoldsAt, IsBroken, IsFirstBroken, IsVerdict, Verdict, Holds, Fails}
 
 -- where a trace satisfies a policy, no rule is broken at a position of it
 satisfied_at : (policy : List Formula) (trace : List Step) → Satisfies trace policy → (rule position : ℕ) → position < length trace

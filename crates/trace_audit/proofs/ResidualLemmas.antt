@@ -1,13 +1,8 @@
 -- What is asked is met where its denial is false, and what two residuals ask for together.
-use Rattle.trace_audit.proofs.Vocabulary.{◌≡◌, ℕ, ◌<◌, ◌≤◌, Bool, ◌+◌, List, [], ◌∷◌}
-use Rattle.trace_audit.proofs.Vocabulary.{◌++◌, length, take, get_or, sym, ap, ◌∙◌, subst, arith, ⊎_elim}
-use Rattle.trace_audit.proofs.Vocabulary.{Vec, Global, ◌↔◌, AllByRecursion, cases_lt, take_more}
-use Rattle.trace_audit.proofs.Vocabulary.{AllByRecursion-append, Valuation, Step, VarId, Formula, Classically, Sat}
-use Rattle.trace_audit.proofs.Vocabulary.{IsStable, formula_for, Plan, CausePlan, SuppressPlan, Both, Either, TestOr}
-use Rattle.trace_audit.proofs.Vocabulary.{Guarded, EventuallyPlan, AlwaysPlan, UntilPlan, NextPlan, plan_of}
-use Rattle.trace_audit.proofs.Vocabulary.{OperatorAsks, ResidualCanGoOn, CanLinkGoOn, CanRowGoOn, IsAllOf, IsAnyOf}
-use Rattle.trace_audit.proofs.Vocabulary.{IsHung, LinkMeans, LinksMean, Means, RowMeans, Link, hidden-the_row-Link-0}
-use Rattle.trace_audit.proofs.Vocabulary.{Residual, Row_of-Link, end_of-Link, more_of-Link, items-the_row-Link}
+use Rattle.trace_audit.proofs.Vocabulary.{◌≡◌, ℕ, ◌<◌, ◌≤◌, Bool, ◌+◌, List, [], ◌∷◌, ◌++◌, length, take, get_or, sym, ap, ◌∙◌, subst, arith, ⊎_elim, Vec, Global, ◌↔◌, AllByRecursion, cases_lt}
+use Rattle.trace_audit.proofs.Vocabulary.{take_more, AllByRecursion-append, Valuation, Step, VarId, Formula, Classically, Sat, IsStable, formula_for, Plan, CausePlan, SuppressPlan, Both, Either}
+use Rattle.trace_audit.proofs.Vocabulary.{TestOr, Guarded, EventuallyPlan, AlwaysPlan, UntilPlan, NextPlan, plan_of, OperatorAsks, ResidualCanGoOn, CanLinkGoOn, CanRowGoOn, IsAllOf, IsAnyOf, IsHung}
+use Rattle.trace_audit.proofs.Vocabulary.{LinkMeans, LinksMean, Means, RowMeans, Link, hidden-the_row-Link-0, Residual, Row_of-Link, end_of-Link, more_of-Link, items-the_row-Link}
 use Rattle.trace_audit.proofs.Vocabulary.{items_hidden-the_row-Link-0}
 use Rattle.std.specs.Prelude.{IsTrue}
 use Rattle.trace_audit.specs.declared.residuals.Link.TheVariants as link

@@ -1,22 +1,17 @@
 -- The words in which the proofs of this crate speak: those of std, of the crates below and of its own specs.
-pub use Rattle.std.proofs.Common.{Bool, Contains, Global, IsTrue, List, None, Option, Some, Vec, [], ap, append_assoc}
-pub use Rattle.std.proofs.Common.{arith, drop, get_or, inl, inr, length, length-append, lit<, lit≤, map, refl, rules}
-pub use Rattle.std.proofs.Common.{subst, suc, sym, take, true≢false, zero, ℕ, ⊎_elim, ◌*◌, ◌++◌, ◌+◌}
-pub use Rattle.std.proofs.Common.{◌<◌, ◌∙◌, ◌∷◌, ◌≡◌, ◌≤◌, ◌⊎◌}
+pub use Rattle.std.proofs.Common.{Bool, Contains, Global, IsTrue, List, None, Option, Some, Vec, [], ap, append_assoc, arith, drop, get_or, inl, inr, length, length-append, lit<, lit≤, map, refl}
+pub use Rattle.std.proofs.Common.{rules, subst, suc, sym, take, true≢false, zero, ℕ, ⊎_elim, ◌*◌, ◌++◌, ◌+◌, ◌<◌, ◌∙◌, ◌∷◌, ◌≡◌, ◌≤◌, ◌⊎◌}
 pub use Rattle.std.proofs.Math.Seq.{get_or-append_seam}
 pub use Rattle.std.proofs.lemmas.Bool.{cases_lt}
-pub use Rattle.std.proofs.lemmas.List.{append-nil, drop_all, get_or-take, get_or_append_left, length-map}
-pub use Rattle.std.proofs.lemmas.List.{length-take-le, take-append-drop, take_more}
+pub use Rattle.std.proofs.lemmas.List.{append-nil, drop_all, get_or-take, get_or_append_left, length-map, length-take-le, take-append-drop, take_more}
 pub use Rattle.std.proofs.lemmas.List.Elements.{Contains-append_left, Contains-append_right}
-pub use Rattle.std.proofs.lemmas.Option.{get_or_from_slice_get, none-some, same_Some, slice_get-get_or, slice_get-map}
-pub use Rattle.std.proofs.lemmas.Option.{slice_get_within}
+pub use Rattle.std.proofs.lemmas.Option.{get_or_from_slice_get, none-some, same_Some, slice_get-get_or, slice_get-map, slice_get_within}
 pub use Rattle.std.proofs.lemmas.Result.{IfOk-weaker, on_ok_weaker}
 pub use Rattle.std.specs.List.{AllByRecursion, AllZip}
 pub use Rattle.std.specs.Option.{option_map}
 pub use Rattle.std.specs.Prelude.{IsSome, slice_get, ◌↔◌}
 pub use Rattle.enf_data.proofs.ListFacts.{all_at, drop_at_item, eq_from_neither_less, slice_get-map_at}
-pub use Rattle.enf_data.proofs.Lists.{AllByRecursion-append, AllByRecursion-contains, AllByRecursion-from_contains}
-pub use Rattle.enf_data.proofs.Lists.{AllByRecursion-of_append, AllByRecursion-weaker, Contains-append, first_or_later}
+pub use Rattle.enf_data.proofs.Lists.{AllByRecursion-append, AllByRecursion-contains, AllByRecursion-from_contains, AllByRecursion-of_append, AllByRecursion-weaker, Contains-append, first_or_later}
 pub use Rattle.enf_data.proofs.Lists.{here, none_in_nil}
 pub use Rattle.enf_data.proofs.ValuationFacts.{some_value}
 pub use Rattle.enf_data.specs.declared.events.Event.{Event}
@@ -25,14 +20,13 @@ pub use Rattle.enf_data.specs.declared.terms.VarId.{VarId}
 pub use Rattle.enf_data.specs.declared.values.Value.{Value}
 pub use Rattle.enf_data.specs.meaning.Data.{IsTrace, no_step, step_at}
 pub use Rattle.enf_data.specs.meaning.Membership.{HasNoRepeats, IsIn}
-pub use Rattle.enf_data.specs.meaning.Valuations.{BindsColumns, Valuation, no_values, value_at, variable_cmp}
-pub use Rattle.enf_data.specs.meaning.Valuations.{with_values}
+pub use Rattle.enf_data.specs.meaning.Valuations.{BindsColumns, Valuation, no_values, value_at, variable_cmp, with_values}
 pub use Rattle.enf_formula.proofs.VariableLaws.{new_apart}
 pub use Rattle.enf_formula.specs.machine.Agreement.{AgreeUpTo}
 pub use Rattle.enf_formula.specs.machine.Cases.{event_p, event_q, formula_p, formula_q}
 pub use Rattle.enf_formula.specs.machine.FormulaViews.{tree_of}
 pub use Rattle.enf_formula.specs.machine.Laws.{IsStable, PastDecides}
-pub use Rattle.enf_formula.specs.meaning.FormulaShape.{AreNewVariables, is_past}
+pub use Rattle.enf_formula.specs.machine.FormulaShape.{AreNewVariables, is_past}
 pub use Rattle.enf_formula.specs.meaning.Satisfaction.{Classically, Formula, IsFree, Sat, elapsed}
 pub use Rattle.enforce_types.specs.machine.PolicyLaws.{PlanMeans, PolicyKeepsMeaning}
 pub use Rattle.enforce_types.specs.machine.TypedPolicies.{typed_of}
@@ -42,25 +36,20 @@ pub use Rattle.past_state.specs.declared.guards.PlacedGuard.{PlacedGuard}
 pub use Rattle.past_state.specs.machine.GuardPlaces.{guards_at, placed_guard}
 pub use Rattle.past_state.specs.machine.Guards.{AreCopies}
 pub use Rattle.past_state.specs.machine.OperatorRuns.{AreUpToTimeOf}
-pub use Rattle.past_state.specs.machine.Past.{AreEvaluated, AreTablesAtStep, BindsBound, GuardsWillHold, HasOpenColumns}
-pub use Rattle.past_state.specs.machine.Past.{IsEvaluated, IsGuard, IsTestOf, Past, PastStands, PastTables}
-pub use Rattle.past_state.specs.machine.Past.{guard_formula, tables_of}
+pub use Rattle.past_state.specs.machine.Past.{AreEvaluated, AreTablesAtStep, BindsBound, GuardsWillHold, HasOpenColumns, IsEvaluated, IsGuard, IsTestOf, Past, PastStands, PastTables, guard_formula}
+pub use Rattle.past_state.specs.machine.Past.{tables_of}
 pub use Rattle.plan_terms.proofs.ScopeLaws.{AtEach-from_nodes}
 pub use Rattle.plan_terms.specs.machine.GuardProperties.{guards_of}
 pub use Rattle.plan_terms.specs.machine.Laws.{ColumnsAreVariables}
 pub use Rattle.plan_terms.specs.machine.StoredPlans.{formulas_for, plan_of}
-pub use Rattle.plan_terms.specs.meaning.Plans.{AlwaysPlan, Both, CausePlan, Either, EventuallyPlan, Guarded, NextPlan}
-pub use Rattle.plan_terms.specs.meaning.Plans.{Plan, SuppressPlan, TestOr, UntilPlan, formula_for, interval_from_to}
-pub use Rattle.plan_terms.specs.meaning.Plans.{nodes}
-pub use Rattle.plan_terms.specs.machine.WellFormed.{AtEach, IsScopedNode, AreWellFormed, EndsInTime, IsListedNode}
-pub use Rattle.plan_terms.specs.machine.WellFormed.{IsSafeNode, IsWellFormed, LooksBack}
+pub use Rattle.plan_terms.specs.meaning.Plans.{AlwaysPlan, Both, CausePlan, Either, EventuallyPlan, Guarded, NextPlan, Plan, SuppressPlan, TestOr, UntilPlan, formula_for, interval_from_to, nodes}
+pub use Rattle.plan_terms.specs.machine.WellFormed.{AtEach, IsScopedNode, AreWellFormed, EndsInTime, IsListedNode, IsSafeNode, IsWellFormed, LooksBack}
 pub use Rattle.plan_terms.specs.meaning.Scopes.{FitsScope}
 pub use Rattle.trace_audit.specs.declared.followed_rules.Followed.{Followed}
 pub use Rattle.trace_audit.specs.declared.followed_rules.OpenRule.{OpenRule}
 pub use Rattle.trace_audit.specs.declared.residuals.Link.{Link}
 pub use Rattle.trace_audit.specs.declared.residuals.Link.TheBlock.{hidden-the_row-Link-0}
-pub use Rattle.trace_audit.specs.declared.residuals.Residual.{Residual, Row_of-Link, end_of-Link, items-the_row-Link}
-pub use Rattle.trace_audit.specs.declared.residuals.Residual.{items_hidden-the_row-Link-0, more_of-Link, the_lemmas}
+pub use Rattle.trace_audit.specs.declared.residuals.Residual.{Residual, Row_of-Link, end_of-Link, items-the_row-Link, items_hidden-the_row-Link-0, more_of-Link, the_lemmas}
 pub use Rattle.trace_audit.specs.declared.residuals.Waiting.{Waiting}
 pub use Rattle.trace_audit.specs.declared.verdicts.RuleAt.{RuleAt}
 pub use Rattle.trace_audit.specs.declared.verdicts.Verdict.{Verdict}
@@ -68,19 +57,16 @@ pub use Rattle.trace_audit.specs.declared.verdicts.Verdict.TheVariants.{Fails, H
 pub use Rattle.trace_audit.specs.machine.AskablePlans.{CanEvaluatePlan, IsAskable}
 pub use Rattle.trace_audit.specs.machine.Auditors.{Auditing, Audits, HasTaken, audited_rules, end_of}
 pub use Rattle.trace_audit.specs.machine.Cases.{one_step, p_always_later, q_later, q_next, q_now, q_until_q_later}
-pub use Rattle.trace_audit.specs.machine.Judgements.{AreJudged, BeginsRules, FollowsAsked, FollowsOneAsked, IsAskedFor}
-pub use Rattle.trace_audit.specs.machine.Judgements.{IsJudged, IsRuleBefore, IsRuleBeforeAny, JudgesStep, NothingElse}
-pub use Rattle.trace_audit.specs.machine.Judgements.{PutsIn, RulesAreMet, RulesCanGoOn, asked_at, rule_at}
+pub use Rattle.trace_audit.specs.machine.Judgements.{AreJudged, BeginsRules, FollowsAsked, FollowsOneAsked, IsAskedFor, IsJudged, IsRuleBefore, IsRuleBeforeAny, JudgesStep, NothingElse, PutsIn}
+pub use Rattle.trace_audit.specs.machine.Judgements.{RulesAreMet, RulesCanGoOn, asked_at, rule_at}
 pub use Rattle.trace_audit.specs.machine.Laws.{VerdictIsOfPolicy, VerdictIsOne}
 pub use Rattle.trace_audit.specs.machine.Moments.{AuditMoment, IsAt, IsBegunWaiting, TellsRest, audit_moment, moment_of}
-pub use Rattle.trace_audit.specs.machine.Residuals.{CanLinkGoOn, CanRowGoOn, ClassicallyOr, IsAllOf, IsAnyOf, IsHung}
-pub use Rattle.trace_audit.specs.machine.Residuals.{IsLeftInWindow, LinkMeans, LinksMean, Means, OperatorAsks}
-pub use Rattle.trace_audit.specs.machine.Residuals.{PlanHoldsAt, ResidualCanGoOn, RowMeans, WaitingAsks}
+pub use Rattle.trace_audit.specs.machine.Residuals.{CanLinkGoOn, CanRowGoOn, ClassicallyOr, IsAllOf, IsAnyOf, IsHung, IsLeftInWindow, LinkMeans, LinksMean, Means, OperatorAsks, PlanHoldsAt}
+pub use Rattle.trace_audit.specs.machine.Residuals.{ResidualCanGoOn, RowMeans, WaitingAsks}
 pub use Rattle.trace_audit.specs.meaning.Verdicts.{HoldsAt, IsBroken, IsFirstBroken, IsVerdict}
 pub use Rattle.trace_meaning.specs.machine.Laws.{LastIsAtTheEnd, LastIsTheNew, NoneIsLater, TraceGrows}
 pub use Rattle.trace_meaning.specs.meaning.Traces.{Satisfies, last_time}
-pub use Rattle.valuations.proofs.RowLaws.{agrees_once, cell_some, table_row-length, value_at-with_inside}
-pub use Rattle.valuations.proofs.RowLaws.{value_at-with_outside}
+pub use Rattle.valuations.proofs.RowLaws.{agrees_once, cell_some, table_row-length, value_at-with_inside, value_at-with_outside}
 pub use Rattle.valuations.proofs.ScopeLaws.{filled_fresh}
 pub use Rattle.valuations.specs.machine.Bindings.{bound_in, filled_from_row}
 pub use Rattle.valuations.specs.machine.Tables.{AgreeOnColumns, AgreesWithRow, IsTable, Relation}

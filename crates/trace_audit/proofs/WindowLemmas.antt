@@ -1,9 +1,6 @@
 -- What an operator on the future asks for from a position on is what it asks for there and from the next position on.
-use Rattle.trace_audit.proofs.Vocabulary.{◌≡◌, ℕ, ◌+◌, ◌<◌, ◌≤◌, List, length, sym, subst, arith}
-use Rattle.trace_audit.proofs.Vocabulary.{inl, inr, ⊎_elim, ◌⊎◌, ◌↔◌, cases_lt, step_at, IsIn, Valuation}
-use Rattle.trace_audit.proofs.Vocabulary.{Step, elapsed, formula_for, interval_from_to, Plan, EventuallyPlan}
-use Rattle.trace_audit.proofs.Vocabulary.{AlwaysPlan, UntilPlan, IsAt, AuditMoment, OperatorAsks, PlanHoldsAt}
-use Rattle.trace_audit.proofs.Vocabulary.{IsLeftInWindow, ClassicallyOr}
+use Rattle.trace_audit.proofs.Vocabulary.{◌≡◌, ℕ, ◌+◌, ◌<◌, ◌≤◌, List, length, sym, subst, arith, inl, inr, ⊎_elim, ◌⊎◌, ◌↔◌, cases_lt, step_at, IsIn, Valuation, Step, elapsed, formula_for}
+use Rattle.trace_audit.proofs.Vocabulary.{interval_from_to, Plan, EventuallyPlan, AlwaysPlan, UntilPlan, IsAt, AuditMoment, OperatorAsks, PlanHoldsAt, IsLeftInWindow, ClassicallyOr}
 use Rattle.trace_audit.proofs.ResidualLemmas.{IsClassical}
 
 -- ---- positions in a window

@@ -4,8 +4,7 @@ use Rattle.std.proofs.lemmas.List.{append-nil}
 use Rattle.std.proofs.lemmas.List.Elements.{All-nil, All-weaker, All-append, All-from_get_or}
 use Rattle.enf_data.specs.meaning.Data.{IsTrace}
 use Rattle.enf_data.specs.declared.steps.Step.{Step}
-use Rattle.trace_meaning.specs.machine.Laws.{SatisfyingIsGood, GoodFromEarlier, GoodFromLonger, FrontIsGood}
-use Rattle.trace_meaning.specs.machine.Laws.{GoodIsTrace}
+use Rattle.trace_meaning.specs.machine.Laws.{SatisfyingIsGood, GoodFromEarlier, GoodFromLonger, FrontIsGood, GoodIsTrace}
 use Rattle.trace_meaning.proofs.Growth.{not_earlier, trace_front}
 
 pub satisfying_is_good : SatisfyingIsGood

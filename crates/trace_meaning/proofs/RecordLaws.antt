@@ -5,8 +5,7 @@ use Rattle.std.proofs.Common.{ap, refl, ◌∙◌, subst, sym}
 use Rattle.std.specs.Prelude.{◌≡◌, List, [], ◌∷◌, ◌++◌, Bool}
 use Rattle.trace_meaning.specs.declared.kinds.StepKind.{StepKind}
 use Rattle.trace_meaning.specs.declared.kinds.StepKind.TheVariants.{Inserted, System}
-use Rattle.trace_meaning.specs.meaning.Traces.{AreChangedTo, OutStep, onto_system, system_steps, Record, StepRecord}
-use Rattle.trace_meaning.specs.meaning.Traces.{Tick, recorded}
+use Rattle.trace_meaning.specs.meaning.Traces.{AreChangedTo, OutStep, onto_system, system_steps, Record, StepRecord, Tick, recorded}
 
 pub recorded_join : (records more : List Record) → recorded (records ++ more) ≡ recorded records ++ recorded more
 recorded_join [] more = refl

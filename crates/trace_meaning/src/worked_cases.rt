@@ -6,7 +6,7 @@ ghost use Rattle.trace_meaning.specs.machine.Cases.{may_suppress, system_at, ins
 ghost use Rattle.trace_meaning.specs.machine.Cases.{policy_p_in_time};
 ghost use Rattle.trace_meaning.specs.meaning.Traces.{Continuation, Good, Cause, Suppress, from_nothing, Tick};
 ghost use Rattle.trace_meaning.specs.meaning.Traces.{NeverFall};
-ghost use Rattle.trace_meaning.specs.meaning.Enforced.{GoodPrefix, Enforced, KeepsUp};
+ghost use Rattle.trace_meaning.specs.machine.Enforced.{GoodPrefix, Enforced, KeepsUp};
 
 /// Changes of the records' own steps.
 pub fn changes()

@@ -1,9 +1,6 @@
 -- The values of terms, one term after another, and cells past the end of a row.
-use Rattle.valuations.proofs.Vocabulary.{◌≡◌, ℕ, ◌≤◌, ⊎_elim, List, [], ◌∷◌, ◌++◌, length}
-use Rattle.valuations.proofs.Vocabulary.{drop, min, Option, None, Some, IsSome, Contains, refl, sym, ap, subst}
-use Rattle.valuations.proofs.Vocabulary.{◌∙◌, arith, cases_lt, false≢true, drop_all, same_Some, none-some}
-use Rattle.valuations.proofs.Vocabulary.{Valuation, value_at, value_of_term, values_of_terms, onto_values, Term, Var}
-use Rattle.valuations.proofs.Vocabulary.{Const, VarId, Value, row_cell}
+use Rattle.valuations.proofs.Vocabulary.{◌≡◌, ℕ, ◌≤◌, ⊎_elim, List, [], ◌∷◌, ◌++◌, length, drop, min, Option, None, Some, IsSome, Contains, refl, sym, ap, subst, ◌∙◌, arith, cases_lt, false≢true}
+use Rattle.valuations.proofs.Vocabulary.{drop_all, same_Some, none-some, Valuation, value_at, value_of_term, values_of_terms, onto_values, Term, Var, Const, VarId, Value, row_cell}
 
 pub values_push : (v : Valuation) (terms : List Term) (t : Term) (values : List Value) (a : Value) → values_of_terms v terms ≡ Some values → value_of_term v t ≡ Some a
     → values_of_terms v (terms ++ t ∷ []) ≡ Some (values ++ a ∷ [])

@@ -1,10 +1,7 @@
 -- Lists of bindings in rising variable number, and the valuations for which they stand.
-use Rattle.valuations.proofs.Vocabulary.{◌≡◌, ◌≢◌, ℕ, ◌+◌, ◌<◌, ◌≤◌, suc, Bool, true, false}
-use Rattle.valuations.proofs.Vocabulary.{cond, T, List, [], ◌∷◌, length, drop, get_or, None, Some, refl, sym, ap}
-use Rattle.valuations.proofs.Vocabulary.{subst, ◌∙◌, arith, insert, nat_lt, ltb, put, find, is_sorted}
-use Rattle.valuations.proofs.Vocabulary.{is_sorted-put, at_drop_more, at_drop_all, none-some, ltb-true, ltb-false}
-use Rattle.valuations.proofs.Vocabulary.{lt-ltb, le-ltb, eq-eqb, ne_eqb, Valuation, variable_cmp, value_at, no_values}
-use Rattle.valuations.proofs.Vocabulary.{bindings, variable_cmp_total, VarId, Value, binding_place, with_value}
+use Rattle.valuations.proofs.Vocabulary.{◌≡◌, ◌≢◌, ℕ, ◌+◌, ◌<◌, ◌≤◌, suc, Bool, true, false, cond, T, List, [], ◌∷◌, length, drop, get_or, None, Some, refl, sym, ap, subst, ◌∙◌, arith, insert, nat_lt}
+use Rattle.valuations.proofs.Vocabulary.{ltb, put, find, is_sorted, is_sorted-put, at_drop_more, at_drop_all, none-some, ltb-true, ltb-false, lt-ltb, le-ltb, eq-eqb, ne_eqb, Valuation, variable_cmp}
+use Rattle.valuations.proofs.Vocabulary.{value_at, no_values, bindings, variable_cmp_total, VarId, Value, binding_place, with_value}
 use Rattle.std.specs.FinMap as map
 
 -- a list without bindings stands for the valuation that binds nothing

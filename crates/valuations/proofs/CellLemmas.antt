@@ -1,16 +1,12 @@
 -- The values that rows have for variables, and parts of rows.
-use Rattle.valuations.proofs.Vocabulary.{◌≡◌, ℕ, suc, ◌+◌, ◌<◌, Bool, true, false, cond, ⊎_elim, List}
-use Rattle.valuations.proofs.Vocabulary.{[], ◌∷◌, ◌++◌, length, map, get_or, Option, Some, Contains, refl}
-use Rattle.valuations.proofs.Vocabulary.{sym, ap, subst, ◌∙◌, arith, take, append_assoc, cons_option, eq-eqb}
-use Rattle.valuations.proofs.Vocabulary.{eqb-true, false≢true, filter_map-append, take_more, HasNoRepeats, VarId}
-use Rattle.valuations.proofs.Vocabulary.{Value, row_key, row_part, ArePlaces, row_cell}
+use Rattle.valuations.proofs.Vocabulary.{◌≡◌, ℕ, suc, ◌+◌, ◌<◌, Bool, true, false, cond, ⊎_elim, List, [], ◌∷◌, ◌++◌, length, map, get_or, Option, Some, Contains, refl, sym, ap, subst, ◌∙◌, arith}
+use Rattle.valuations.proofs.Vocabulary.{take, append_assoc, cons_option, eq-eqb, eqb-true, false≢true, filter_map-append, take_more, HasNoRepeats, VarId, Value, row_key, row_part, ArePlaces}
+use Rattle.valuations.proofs.Vocabulary.{row_cell}
 use Rattle.std.proofs.Common.{◌==◌}
 use Rattle.std.specs.List.{slice_get}
-pub use Rattle.enf_data.proofs.Lists.{here, later, first_or_later, none_in_nil, there_from_get, Contains-filter}
-pub use Rattle.enf_data.proofs.Lists.{Contains-from_filter, HasNoRepeats-filter, Contains-append, HasNoRepeats-append}
+pub use Rattle.enf_data.proofs.Lists.{here, later, first_or_later, none_in_nil, there_from_get, Contains-filter, Contains-from_filter, HasNoRepeats-filter, Contains-append, HasNoRepeats-append}
 pub use Rattle.enf_data.proofs.Lists.{same_at, same_lists_at}
-pub use Rattle.valuations.proofs.ColumnLaws.{same_variable, is_among-Decides, among_or_not, shared_in, in_shared}
-pub use Rattle.valuations.proofs.ColumnLaws.{not_shared_in, in_not_shared}
+pub use Rattle.valuations.proofs.ColumnLaws.{same_variable, is_among-Decides, among_or_not, shared_in, in_shared, not_shared_in, in_not_shared}
 pub use Rattle.valuations.proofs.RowLaws.{cell_here, cell_later, cell_at, cell_some, cell_front, cell_back, same_row}
 
 -- ---- places

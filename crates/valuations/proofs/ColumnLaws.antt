@@ -1,8 +1,6 @@
 -- The columns that two lists share.
-use Rattle.valuations.proofs.Vocabulary.{Contains-from_filter, Contains-filter, VarId, ap, refl, inl, inr, sym}
-use Rattle.valuations.proofs.Vocabulary.{◌∙◌, false≢true, Decides-eqb, Decides-like, Decides-by_or}
-use Rattle.valuations.proofs.Vocabulary.{Decides-contains, Decides, list_any, ◌==◌, is_column, columns_shared}
-use Rattle.valuations.proofs.Vocabulary.{columns_unshared}
+use Rattle.valuations.proofs.Vocabulary.{Contains-from_filter, Contains-filter, VarId, ap, refl, inl, inr, sym, ◌∙◌, false≢true, Decides-eqb, Decides-like, Decides-by_or, Decides-contains, Decides}
+use Rattle.valuations.proofs.Vocabulary.{list_any, ◌==◌, is_column, columns_shared, columns_unshared}
 use Rattle.std.specs.Prelude.{◌≡◌, List, Contains, Bool, true, false, ◌⊎◌, not}
 
 -- ---- variables

@@ -1,15 +1,9 @@
 -- Comparisons decided, and the valuations that a comparison and a binding keep.
-use Rattle.valuations.proofs.Vocabulary.{◌≡◌, ℕ, ◌≤◌, ◌<ℤ◌, ◌≤ℤ◌, ℤ, Bool, true, false}
-use Rattle.valuations.proofs.Vocabulary.{◌&&◌, ⊎_elim, List, [], ◌∷◌, length, map, drop, min, Option, None}
-use Rattle.valuations.proofs.Vocabulary.{Some, All, Contains, ◌↔◌, refl, sym, ap, subst, ◌∙◌, arith}
-use Rattle.valuations.proofs.Vocabulary.{Decides, filter, int_cmp, is_lt, is_le, is_eq, MatchOrdering, int_ranked}
-use Rattle.valuations.proofs.Vocabulary.{Equal-is, tied_itself, Ordering, Less, Equal, Greater, false≢true, cases_lt}
-use Rattle.valuations.proofs.Vocabulary.{ints, Decides-like, Decides-and, drop_all, All-filter, same_Some, HasNoRepeats}
-use Rattle.valuations.proofs.Vocabulary.{value_cmp, Valuation, value_at, value_of_term, Term, Var, Const, VarId, Value}
-use Rattle.valuations.proofs.Vocabulary.{Num, Text, ComparesValues, compares_values, is_bound_value, is_row_as_bound}
-use Rattle.valuations.proofs.Vocabulary.{IsColumnOf, ReadsTerm, operand_value, Relation, IsTable, HasValuation}
-use Rattle.valuations.proofs.Vocabulary.{AgreesWithRow, IsBoundSame, AgreesWhereBound, Compare, Operand, Cell, Fixed}
-use Rattle.valuations.proofs.Vocabulary.{Nowhere, value_cmp_total, value_cmp_exact, none_in_nil, here, later}
+use Rattle.valuations.proofs.Vocabulary.{◌≡◌, ℕ, ◌≤◌, ◌<ℤ◌, ◌≤ℤ◌, ℤ, Bool, true, false, ◌&&◌, ⊎_elim, List, [], ◌∷◌, length, map, drop, min, Option, None, Some, All, Contains, ◌↔◌, refl, sym, ap}
+use Rattle.valuations.proofs.Vocabulary.{subst, ◌∙◌, arith, Decides, filter, int_cmp, is_lt, is_le, is_eq, MatchOrdering, int_ranked, Equal-is, tied_itself, Ordering, Less, Equal, Greater, false≢true}
+use Rattle.valuations.proofs.Vocabulary.{cases_lt, ints, Decides-like, Decides-and, drop_all, All-filter, same_Some, HasNoRepeats, value_cmp, Valuation, value_at, value_of_term, Term, Var, Const}
+use Rattle.valuations.proofs.Vocabulary.{VarId, Value, Num, Text, ComparesValues, compares_values, is_bound_value, is_row_as_bound, IsColumnOf, ReadsTerm, operand_value, Relation, IsTable}
+use Rattle.valuations.proofs.Vocabulary.{HasValuation, AgreesWithRow, IsBoundSame, AgreesWhereBound, Compare, Operand, Cell, Fixed, Nowhere, value_cmp_total, value_cmp_exact, none_in_nil, here, later}
 use Rattle.valuations.proofs.Vocabulary.{first_or_later, Contains-filter, Contains-from_filter}
 use Rattle.valuations.proofs.RowLaws.{cell_here, cell_later, cell_at, table_row-length}
 use Rattle.valuations.specs.declared.comparing.Compare.TheVariants as kinds

@@ -1,11 +1,7 @@
 -- Valuations that are made of a frame's values, one after another.
-use Rattle.valuations.proofs.Vocabulary.{◌≡◌, ℕ, ◌+◌, ◌<◌, ◌≤◌, List, [], ◌∷◌, ◌++◌}
-use Rattle.valuations.proofs.Vocabulary.{length, take, drop, get_or, min, Contains, Option, None, Some, refl, sym, ap}
-use Rattle.valuations.proofs.Vocabulary.{subst, ◌∙◌, arith, ⊎_elim, Bool, true, false, true≢false, not}
-use Rattle.valuations.proofs.Vocabulary.{cases_lt, drop_all, take_more, Contains-append_left, Contains-append_right}
-use Rattle.valuations.proofs.Vocabulary.{none-some, Bor, is_some, option_copied, Contains-append, first_or_later, here}
-use Rattle.valuations.proofs.Vocabulary.{none_in_nil, Valuation, value_at, same_valuation, VarId, Value, with_value}
-use Rattle.valuations.proofs.Vocabulary.{filled_from_row, valuation_part}
+use Rattle.valuations.proofs.Vocabulary.{◌≡◌, ℕ, ◌+◌, ◌<◌, ◌≤◌, List, [], ◌∷◌, ◌++◌, length, take, drop, get_or, min, Contains, Option, None, Some, refl, sym, ap, subst, ◌∙◌, arith, ⊎_elim, Bool}
+use Rattle.valuations.proofs.Vocabulary.{true, false, true≢false, not, cases_lt, drop_all, take_more, Contains-append_left, Contains-append_right, none-some, Bor, is_some, option_copied}
+use Rattle.valuations.proofs.Vocabulary.{Contains-append, first_or_later, here, none_in_nil, Valuation, value_at, same_valuation, VarId, Value, with_value, filled_from_row, valuation_part}
 use Rattle.valuations.proofs.ColumnLaws.{among_or_not}
 use Rattle.valuations.proofs.RowLaws.{value_at-bound, value_at-other}
 use Rattle.valuations.proofs.ScopeLaws.{part_inside, part_outside, same_or_other, IsPartOfValuation}

@@ -1,10 +1,7 @@
 -- One row more in a join, and in the rows without a partner.
-use Rattle.valuations.proofs.Vocabulary.{◌≡◌, ℕ, ◌+◌, ◌<◌, true, false, ⊎_elim, List, [], ◌∷◌}
-use Rattle.valuations.proofs.Vocabulary.{◌++◌, length, map, take, get_or, Contains, ◌↔◌, refl, sym, ap, subst}
-use Rattle.valuations.proofs.Vocabulary.{◌∙◌, arith, Bor, eqb-true, eqb-false, take_more, Contains-append_left}
-use Rattle.valuations.proofs.Vocabulary.{Contains-append_right, Value, only_item as only, row_key, row_part, shown_rows}
-use Rattle.valuations.proofs.Vocabulary.{AreJoinedRows, AreSingleRows, none_in_nil, here, Contains-append, Contains-map}
-use Rattle.valuations.proofs.Vocabulary.{Contains-from_map}
+use Rattle.valuations.proofs.Vocabulary.{◌≡◌, ℕ, ◌+◌, ◌<◌, true, false, ⊎_elim, List, [], ◌∷◌, ◌++◌, length, map, take, get_or, Contains, ◌↔◌, refl, sym, ap, subst, ◌∙◌, arith, Bor, eqb-true}
+use Rattle.valuations.proofs.Vocabulary.{eqb-false, take_more, Contains-append_left, Contains-append_right, Value, only_item as only, row_key, row_part, shown_rows, AreJoinedRows, AreSingleRows}
+use Rattle.valuations.proofs.Vocabulary.{none_in_nil, here, Contains-append, Contains-map, Contains-from_map}
 use Rattle.std.proofs.Common.{◌==◌}
 
 -- the partners of a row

@@ -1,6 +1,5 @@
 -- The order of keys is total, and only equal keys tie.
-use Rattle.valuations.proofs.Vocabulary.{value_cmp_total, value_cmp_exact, Value, value_cmp, row_cmp, ap, IsTotalOrder}
-use Rattle.valuations.proofs.Vocabulary.{lists_total, options_total, IsAntisymmetric, slice_cmp-IsAntisymmetric}
+use Rattle.valuations.proofs.Vocabulary.{value_cmp_total, value_cmp_exact, Value, value_cmp, row_cmp, ap, IsTotalOrder, lists_total, options_total, IsAntisymmetric, slice_cmp-IsAntisymmetric}
 use Rattle.valuations.proofs.Vocabulary.{option_cmp, ordering_then, Ordering, key_cmp}
 use Rattle.std.specs.Prelude.{None, Some, refl, ◌≡◌, List, [], ◌∷◌, map}
 

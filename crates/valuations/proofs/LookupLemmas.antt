@@ -1,12 +1,8 @@
 -- A valuation's values of the columns, looked up among the rows.
-use Rattle.valuations.proofs.Vocabulary.{◌≡◌, ℕ, zero, suc, ◌+◌, ◌<◌, List, [], ◌∷◌, length, map}
-use Rattle.valuations.proofs.Vocabulary.{drop, min, get_or, Option, Some, Contains, IsTrue, ◌↔◌, ◌⊎◌}
-use Rattle.valuations.proofs.Vocabulary.{⊎_elim, inl, inr, is_ok, Result, Ok, Err, refl, sym, ap, subst, ◌∙◌}
-use Rattle.valuations.proofs.Vocabulary.{arith, tied_itself, IsSearchInRange, IsBinarySearchResult, is_lt, nat_cmp}
-use Rattle.valuations.proofs.Vocabulary.{Less, Equal, Greater, false≢true, cases_lt, cases_order, lt-ltb, le-ltb}
-use Rattle.valuations.proofs.Vocabulary.{eq-eqb, ne_eqb, Contains-get_or, searchable_from_sorted, HasNoRepeats}
-use Rattle.valuations.proofs.Vocabulary.{Valuation, value_at, VarId, Value, key_cmp, Relation, IsTable, HasValuation}
-use Rattle.valuations.proofs.Vocabulary.{row_cell, row_cmp_total, no_tie, same_at, same_lists_at}
+use Rattle.valuations.proofs.Vocabulary.{◌≡◌, ℕ, zero, suc, ◌+◌, ◌<◌, List, [], ◌∷◌, length, map, drop, min, get_or, Option, Some, Contains, IsTrue, ◌↔◌, ◌⊎◌, ⊎_elim, inl, inr, is_ok, Result, Ok, Err}
+use Rattle.valuations.proofs.Vocabulary.{refl, sym, ap, subst, ◌∙◌, arith, tied_itself, IsSearchInRange, IsBinarySearchResult, is_lt, nat_cmp, Less, Equal, Greater, false≢true, cases_lt, cases_order}
+use Rattle.valuations.proofs.Vocabulary.{lt-ltb, le-ltb, eq-eqb, ne_eqb, Contains-get_or, searchable_from_sorted, HasNoRepeats, Valuation, value_at, VarId, Value, key_cmp, Relation, IsTable}
+use Rattle.valuations.proofs.Vocabulary.{HasValuation, row_cell, row_cmp_total, no_tie, same_at, same_lists_at}
 use Rattle.valuations.proofs.KeyLaws.{key_cmp_total, key_cmp_exact, same_order}
 use Rattle.valuations.proofs.RowOrder.{sorted_from_strict}
 use Rattle.valuations.proofs.RowLaws.{cell_here, cell_later, table_row-length}

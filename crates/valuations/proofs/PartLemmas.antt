@@ -1,7 +1,5 @@
 -- Bindings one after another.
-use Rattle.valuations.proofs.Vocabulary.{◌≡◌, ℕ, ◌+◌, ◌<◌, List, length, get_or, take, Some, sym, ap}
-use Rattle.valuations.proofs.Vocabulary.{◌∙◌, Bor, fold_more, Valuation, value_at, VarId, Value, with_value}
-use Rattle.valuations.proofs.Vocabulary.{bound_by}
+use Rattle.valuations.proofs.Vocabulary.{◌≡◌, ℕ, ◌+◌, ◌<◌, List, length, get_or, take, Some, sym, ap, ◌∙◌, Bor, fold_more, Valuation, value_at, VarId, Value, with_value, bound_by}
 use Rattle.valuations.proofs.RowLaws.{value_at-bound, value_at-other}
 
 -- ---- bindings one after another

@@ -1,11 +1,8 @@
 -- Laws of rows: what a row has for a variable, and the valuations that have the values of a row.
-use Rattle.valuations.proofs.Vocabulary.{there_from_get, first_or_later, none_in_nil, later, here, variable_cmp_total}
-use Rattle.valuations.proofs.Vocabulary.{VarId, Value, HasNoRepeats, Valuation, value_at, with_values, no_values}
-use Rattle.valuations.proofs.Vocabulary.{valuation_of, ap, sym, subst, ◌∙◌, arith, ⊎_elim, refl, eq-eqb, ne_eqb}
-use Rattle.valuations.proofs.Vocabulary.{false≢true, All-contains, same_Some, none-some, unsigned_tied, slice_get}
-use Rattle.valuations.proofs.Vocabulary.{◌==◌, row_cell, AgreesWithRow, Relation, IsTable, HasValuation}
-use Rattle.std.specs.Prelude.{◌≡◌, List, ◌∷◌, Some, ℕ, zero, suc, [], length, Contains}
-use Rattle.std.specs.Prelude.{Bool, true, false, cond, ◌++◌}
+use Rattle.valuations.proofs.Vocabulary.{there_from_get, first_or_later, none_in_nil, later, here, variable_cmp_total, VarId, Value, HasNoRepeats, Valuation, value_at, with_values, no_values}
+use Rattle.valuations.proofs.Vocabulary.{valuation_of, ap, sym, subst, ◌∙◌, arith, ⊎_elim, refl, eq-eqb, ne_eqb, false≢true, All-contains, same_Some, none-some, unsigned_tied, slice_get, ◌==◌}
+use Rattle.valuations.proofs.Vocabulary.{row_cell, AgreesWithRow, Relation, IsTable, HasValuation}
+use Rattle.std.specs.Prelude.{◌≡◌, List, ◌∷◌, Some, ℕ, zero, suc, [], length, Contains, Bool, true, false, cond, ◌++◌}
 use Rattle.valuations.proofs.ColumnLaws.{same_variable}
 use Rattle.std.specs.FinMap as finite
 

@@ -1,12 +1,8 @@
 -- The order of rows is total, and what a sort, a `dedup` and a search by it leave and find.
-use Rattle.valuations.proofs.Vocabulary.{◌≡◌, ℕ, ◌+◌, true, List, length, get_or, Result, Ok, Err, Contains}
-use Rattle.valuations.proofs.Vocabulary.{IsTrue, ◌↔◌, refl, sym, ap, subst, ◌∙◌, arith, is_ok, inl, inr}
-use Rattle.valuations.proofs.Vocabulary.{⊎_elim, IsTotalOrder, tied_itself, eq_by_cmp_equiv, IsAntisymmetric, dedup}
-use Rattle.valuations.proofs.Vocabulary.{IsSorted, IsPermutation, IsBinarySearchResult, IsSearchInRange, is_lt, is_eq}
-use Rattle.valuations.proofs.Vocabulary.{eq_by_cmp, ordering_reverse, Ordering, Less, Equal, Greater, false≢true}
-use Rattle.valuations.proofs.Vocabulary.{cases_lt, searchable_from_sorted, Contains-permutation, IsPermutation-sym}
-use Rattle.valuations.proofs.Vocabulary.{Contains-dedup, Contains-from_dedup, IsStrictlySortedBy-dedup}
-use Rattle.valuations.proofs.Vocabulary.{Less-from_sorted, row_cmp, Value}
+use Rattle.valuations.proofs.Vocabulary.{◌≡◌, ℕ, ◌+◌, true, List, length, get_or, Result, Ok, Err, Contains, IsTrue, ◌↔◌, refl, sym, ap, subst, ◌∙◌, arith, is_ok, inl, inr, ⊎_elim, IsTotalOrder}
+use Rattle.valuations.proofs.Vocabulary.{tied_itself, eq_by_cmp_equiv, IsAntisymmetric, dedup, IsSorted, IsPermutation, IsBinarySearchResult, IsSearchInRange, is_lt, is_eq, eq_by_cmp}
+use Rattle.valuations.proofs.Vocabulary.{ordering_reverse, Ordering, Less, Equal, Greater, false≢true, cases_lt, searchable_from_sorted, Contains-permutation, IsPermutation-sym, Contains-dedup}
+use Rattle.valuations.proofs.Vocabulary.{Contains-from_dedup, IsStrictlySortedBy-dedup, Less-from_sorted, row_cmp, Value}
 use Rattle.std.specs.List.Sorted.{IsStrictlySortedBy}
 pub use Rattle.enf_data.proofs.ValueOrder.{value_cmp_total, value_cmp_exact, row_cmp_total, row_cmp_exact}
 pub use Rattle.valuations.proofs.KeyLaws.{key_cmp_total, key_cmp_exact}

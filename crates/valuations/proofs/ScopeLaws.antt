@@ -1,9 +1,7 @@
 -- Laws of valuations that are filled from rows, and of being in a table.
-use Rattle.valuations.proofs.Vocabulary.{here, first_or_later, none_in_nil, later, some_or_not, same_at_or_not, VarId}
-use Rattle.valuations.proofs.Vocabulary.{Value, HasNoRepeats, Valuation, value_at, with_values, variable_cmp, inl, inr}
-use Rattle.valuations.proofs.Vocabulary.{⊎_elim, subst, refl, sym, ap, ◌∙◌, arith, none-some, with_new}
-use Rattle.valuations.proofs.Vocabulary.{filled_from_row, with_value, with_found, valuation_part, AgreesWithRow}
-use Rattle.valuations.proofs.Vocabulary.{row_cell, Relation, HasValuation}
+use Rattle.valuations.proofs.Vocabulary.{here, first_or_later, none_in_nil, later, some_or_not, same_at_or_not, VarId, Value, HasNoRepeats, Valuation, value_at, with_values, variable_cmp, inl, inr}
+use Rattle.valuations.proofs.Vocabulary.{⊎_elim, subst, refl, sym, ap, ◌∙◌, arith, none-some, with_new, filled_from_row, with_value, with_found, valuation_part, AgreesWithRow, row_cell, Relation}
+use Rattle.valuations.proofs.Vocabulary.{HasValuation}
 use Rattle.std.specs.Prelude.{◌≡◌, ◌⊎◌, [], ◌∷◌, Contains, List, Option, None, Some}
 use Rattle.valuations.proofs.ColumnLaws.{among_or_not}
 use Rattle.valuations.proofs.RowLaws.{value_at-other, value_at-bound, cell_here, cell_later}

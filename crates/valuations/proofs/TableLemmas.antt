@@ -1,18 +1,12 @@
 -- The valuations that tables have.
-use Rattle.valuations.proofs.Vocabulary.{◌≡◌, ℕ, ◌+◌, ◌⊎◌, inl, inr, ⊎_elim, List, ◌++◌, length}
-use Rattle.valuations.proofs.Vocabulary.{map, All, Contains, ◌↔◌, sym, ap, subst, ◌∙◌, length-append}
-use Rattle.valuations.proofs.Vocabulary.{Result, Ok, Err, IfOk, length-map, Contains-append_left, Contains-append_right}
-use Rattle.valuations.proofs.Vocabulary.{HasNoRepeats, Valuation, value_at, valuation_of, VarId, Value}
-use Rattle.valuations.proofs.Vocabulary.{all_from as each, row_key, row_part, ArePlaces, AreJoinedRows, AreSingleRows}
-use Rattle.valuations.proofs.Vocabulary.{Relation, IsTable, HasValuation, AgreesWithRow, row_cell, columns_shared}
-use Rattle.valuations.proofs.Vocabulary.{columns_unshared, AreSameColumns, AgreeOnColumns, same_at, same_lists_at}
-use Rattle.valuations.proofs.Vocabulary.{Contains-append, HasNoRepeats-append, HasNoRepeats-filter, Contains-map}
-use Rattle.valuations.proofs.Vocabulary.{Contains-from_map}
+use Rattle.valuations.proofs.Vocabulary.{◌≡◌, ℕ, ◌+◌, ◌⊎◌, inl, inr, ⊎_elim, List, ◌++◌, length, map, All, Contains, ◌↔◌, sym, ap, subst, ◌∙◌, length-append, Result, Ok, Err, IfOk, length-map}
+use Rattle.valuations.proofs.Vocabulary.{Contains-append_left, Contains-append_right, HasNoRepeats, Valuation, value_at, valuation_of, VarId, Value, all_from as each, row_key, row_part, ArePlaces}
+use Rattle.valuations.proofs.Vocabulary.{AreJoinedRows, AreSingleRows, Relation, IsTable, HasValuation, AgreesWithRow, row_cell, columns_shared, columns_unshared, AreSameColumns, AgreeOnColumns}
+use Rattle.valuations.proofs.Vocabulary.{same_at, same_lists_at, Contains-append, HasNoRepeats-append, HasNoRepeats-filter, Contains-map, Contains-from_map}
 use Rattle.valuations.proofs.ColumnLaws.{among_or_not, shared_in, in_shared, not_shared_in, in_not_shared}
 use Rattle.valuations.proofs.RowLaws.{cell_front, cell_back, table_row-length}
 use Rattle.valuations.proofs.CellLemmas.{key_cells, IsPart, part_cells}
-pub use Rattle.valuations.proofs.RowLaws.{value_at-bound, value_at-other, value_at-with_outside, value_at-with_inside}
-pub use Rattle.valuations.proofs.RowLaws.{agrees_itself, agrees_once, contains_valuation, contains_from_valuation}
+pub use Rattle.valuations.proofs.RowLaws.{value_at-bound, value_at-other, value_at-with_outside, value_at-with_inside, agrees_itself, agrees_once, contains_valuation, contains_from_valuation}
 
 -- ---- columns
 

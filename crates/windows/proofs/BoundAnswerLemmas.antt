@@ -1,15 +1,9 @@
 -- The rows that agree with a valuation where it binds.
-use Rattle.windows.proofs.Vocabulary.{◌≡◌, ◌∙◌, ◌↔◌, ◌⊎◌, inl, inr, ⊎_elim, ℕ, ◌≤◌}
-use Rattle.windows.proofs.Vocabulary.{true, ◌&&◌, IsTrue, List, [], ◌∷◌, ◌++◌, length, map, drop, min}
-use Rattle.windows.proofs.Vocabulary.{Contains, Option, None, Some, refl, sym, ap, subst, arith, Decides, cases_lt}
-use Rattle.windows.proofs.Vocabulary.{Decides-like, Decides-and, drop_all, Contains-append_cases, Contains-append_left}
-use Rattle.windows.proofs.Vocabulary.{Contains-append_right, same_Some, SmallVec, value_eq-Decides, HasNoRepeats, IsIn}
-use Rattle.windows.proofs.Vocabulary.{Valuation, value_at, Interval, VarId, Value, only_item as alone, here, later}
-use Rattle.windows.proofs.Vocabulary.{first_or_later, none_in_nil, cell_here, cell_later, table_row-length, Relation}
-use Rattle.windows.proofs.Vocabulary.{IsTable, AgreesWithRow, AgreesWhereBound, HasValuation, IsBoundSame}
-use Rattle.windows.proofs.Vocabulary.{AreWindowEntries, GivesRow, GivesSomeRow, are_cells_as_bound, cells}
-use Rattle.windows.proofs.Vocabulary.{is_cell_as_bound, SurvivesUnder, Window, AnswersBy, AreTables, FitsColumns}
-use Rattle.windows.proofs.Vocabulary.{SurvivesFor, kept_entries, Surviving}
+use Rattle.windows.proofs.Vocabulary.{◌≡◌, ◌∙◌, ◌↔◌, ◌⊎◌, inl, inr, ⊎_elim, ℕ, ◌≤◌, true, ◌&&◌, IsTrue, List, [], ◌∷◌, ◌++◌, length, map, drop, min, Contains, Option, None, Some, refl, sym, ap, subst}
+use Rattle.windows.proofs.Vocabulary.{arith, Decides, cases_lt, Decides-like, Decides-and, drop_all, Contains-append_cases, Contains-append_left, Contains-append_right, same_Some, value_eq-Decides}
+use Rattle.windows.proofs.Vocabulary.{HasNoRepeats, IsIn, Valuation, value_at, Interval, VarId, Value, only_item as alone, here, later, first_or_later, none_in_nil, cell_here, cell_later}
+use Rattle.windows.proofs.Vocabulary.{table_row-length, Relation, IsTable, AgreesWithRow, AgreesWhereBound, HasValuation, IsBoundSame, AreWindowEntries, GivesRow, GivesSomeRow, are_cells_as_bound}
+use Rattle.windows.proofs.Vocabulary.{cells, is_cell_as_bound, SurvivesUnder, Window, AnswersBy, AreTables, FitsColumns, SurvivesFor, kept_entries, Surviving}
 use Rattle.windows.proofs.WindowLemmas.{given_fits, given_rows, table_gives}
 
 -- a list of cells or a row that is used up
@@ -73,7 +67,7 @@ module _ (P : List Value → Type 0) (old done : List (List Value)) (row : List 
 
 -- ---- what a table of those rows has
 
-module _ (window : Window) (interval : Interval) (columns : List VarId) (last time : ℕ) (es : List (List Value × SmallVec ℕ)) (distinct : HasNoRepeats columns)
+module _ (window : Window) (interval : Interval) (columns : List VarId) (last time : ℕ) (es : List (List Value × List ℕ)) (distinct : HasNoRepeats columns)
     (kept : AreWindowEntries (length columns) last es)
     (is : record { interval = interval; columns = columns; last = last; kept = kept_entries es } ≡ window) (s : Surviving) (right : Relation) (v : Valuation) (middle out : List (List Value))
     (fits_s : FitsColumns columns s) (tables : GivesSomeRow interval time es → AreTables s) (right_columns : right.columns ≡ columns) (table : IsIn interval 0 → IsTable right)

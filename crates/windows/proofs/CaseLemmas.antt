@@ -1,13 +1,9 @@
 -- Whether steps over one variable give a number can be computed.
-use Rattle.windows.proofs.Vocabulary.{◌≡◌, ◌∙◌, ⊎_elim, ℕ, ◌-◌, ◌≤◌, Bool, true, false, not}
-use Rattle.windows.proofs.Vocabulary.{◌&&◌, ◌||◌, List, [], ◌∷◌, ◌++◌, length, map, Contains, Option}
-use Rattle.windows.proofs.Vocabulary.{None, Some, refl, sym, ap, subst, arith, append_assoc, append-nil, Decides}
-use Rattle.windows.proofs.Vocabulary.{list_any, false≢true, Decides-and, Decides-or, Decides-like, Decides-eqb}
-use Rattle.windows.proofs.Vocabulary.{map-append, Contains-append_right, list_any-Decides, none_in_nil, here, later}
-use Rattle.windows.proofs.Vocabulary.{first_or_later, HasNoRepeats, IsIn, IsUpTo, Interval, Value, agrees_itself}
-use Rattle.windows.proofs.Vocabulary.{agrees_once, Valuation, AgreesWithRow, HasValuation, StepsAnswer, IsHeld}
-use Rattle.windows.proofs.Vocabulary.{CommittedStep, HasPair, x_columns, number_row, x_number, number_table, Entry}
-use Rattle.windows.proofs.Vocabulary.{IsKeptByEntries, step_of, last_at, with_1, ChosenBy, GivesLast, WindowRemembersIn}
+use Rattle.windows.proofs.Vocabulary.{◌≡◌, ◌∙◌, ⊎_elim, ℕ, ◌-◌, ◌≤◌, Bool, true, false, not, ◌&&◌, ◌||◌, List, [], ◌∷◌, ◌++◌, length, map, Contains, Option, None, Some, refl, sym, ap, subst, arith}
+use Rattle.windows.proofs.Vocabulary.{append_assoc, append-nil, Decides, list_any, false≢true, Decides-and, Decides-or, Decides-like, Decides-eqb, map-append, Contains-append_right, list_any-Decides}
+use Rattle.windows.proofs.Vocabulary.{none_in_nil, here, later, first_or_later, HasNoRepeats, IsIn, IsUpTo, Interval, Value, agrees_itself, agrees_once, Valuation, AgreesWithRow, HasValuation}
+use Rattle.windows.proofs.Vocabulary.{StepsAnswer, IsHeld, CommittedStep, HasPair, x_columns, number_row, x_number, number_table, Entry, IsKeptByEntries, step_of, last_at, with_1, ChosenBy, GivesLast}
+use Rattle.windows.proofs.Vocabulary.{WindowRemembersIn}
 use Rattle.std.specs.Prelude.{nat_eq}
 use Rattle.std.proofs.Math.Dec.{leb}
 use Rattle.windows.proofs.GivenLaws.{leb-Decides}

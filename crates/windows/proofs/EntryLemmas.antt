@@ -1,19 +1,11 @@
 -- Rows with their times.
-use Rattle.windows.proofs.Vocabulary.{◌≡◌, ◌∙◌, ◌↔◌, ◌⊎◌, inl, inr, ⊎_elim, ℕ, zero, suc}
-use Rattle.windows.proofs.Vocabulary.{◌+◌, ◌-◌, ◌<◌, ◌≤◌, Bool, true, false, List, [], ◌∷◌}
-use Rattle.windows.proofs.Vocabulary.{◌++◌, length, map, take, drop, get_or, All, Contains, Option, None, Some}
-use Rattle.windows.proofs.Vocabulary.{refl, sym, ap, subst, arith, false≢true, All-contains, All-nil, All-push}
-use Rattle.windows.proofs.Vocabulary.{Contains-append_cases, Contains-append_left, Contains-append_right}
-use Rattle.windows.proofs.Vocabulary.{Contains-get_or, Contains-push, same_Some, none-some, position, slice_get}
-use Rattle.windows.proofs.Vocabulary.{swap_remove, IfSome, cond, IsDistinct, IsPermutation, RetainsPairs, take_more}
-use Rattle.windows.proofs.Vocabulary.{IsPermutation-swap_remove, IsPermutation-sym, Contains-permutation, position-Some}
-use Rattle.windows.proofs.Vocabulary.{keys_of, lookup, values_of, SmallVec, set_value_at, get_by, insert_entry}
-use Rattle.windows.proofs.Vocabulary.{insert_entry-new, HashMap, HasNoRepeats-from_distinct, here, later}
-use Rattle.windows.proofs.Vocabulary.{first_or_later, none_in_nil, derived_row_eq-Decides, HasNoRepeats, Interval}
-use Rattle.windows.proofs.Vocabulary.{Value, all_from, AddAtMost, AddsAtMost, AddsTime, AddsTimes, AreWindowEntries}
-use Rattle.windows.proofs.Vocabulary.{AreLeast, Forgets, ForgetsTimes, GivesRow, GivesSomeRow, HasTime, IsAnyRow}
-use Rattle.windows.proofs.Vocabulary.{IsSettledRow, IsSomeIn, KeepsRows, IsEndedTime, AreLeastTimes, IsServedTime}
-use Rattle.windows.proofs.Vocabulary.{RiseTo}
+use Rattle.windows.proofs.Vocabulary.{◌≡◌, ◌∙◌, ◌↔◌, ◌⊎◌, inl, inr, ⊎_elim, ℕ, zero, suc, ◌+◌, ◌-◌, ◌<◌, ◌≤◌, Bool, true, false, List, [], ◌∷◌, ◌++◌, length, map, take, drop, get_or, All, Contains}
+use Rattle.windows.proofs.Vocabulary.{Option, None, Some, refl, sym, ap, subst, arith, false≢true, All-contains, All-nil, All-push, Contains-append_cases, Contains-append_left, Contains-append_right}
+use Rattle.windows.proofs.Vocabulary.{Contains-get_or, Contains-push, same_Some, none-some, position, slice_get, swap_remove, IfSome, cond, IsDistinct, IsPermutation, RetainsPairs, take_more}
+use Rattle.windows.proofs.Vocabulary.{IsPermutation-swap_remove, IsPermutation-sym, Contains-permutation, position-Some, keys_of, lookup, values_of, set_value_at, get_by, insert_entry}
+use Rattle.windows.proofs.Vocabulary.{insert_entry-new, HashMap, HasNoRepeats-from_distinct, here, later, first_or_later, none_in_nil, derived_row_eq-Decides, HasNoRepeats, Interval, Value, all_from}
+use Rattle.windows.proofs.Vocabulary.{AddAtMost, AddsAtMost, AddsTime, AddsTimes, AreWindowEntries, AreLeast, Forgets, ForgetsTimes, GivesRow, GivesSomeRow, HasTime, IsAnyRow, IsSettledRow, IsSomeIn}
+use Rattle.windows.proofs.Vocabulary.{KeepsRows, IsEndedTime, AreLeastTimes, IsServedTime, RiseTo}
 use Rattle.std.specs.Prelude.{is_some, IsTrue}
 use Rattle.windows.proofs.LeastLemmas.{one_entry}
 use Rattle.windows.proofs.TimeLemmas.{itself, least_live, least_near, rise_later}
@@ -21,22 +13,22 @@ use Rattle.enf_data.specs.contracts.rows.RowPartialEq.TheImpl as rows
 
 -- ---- an entry whose times are changed
 
-pub record SetsAt (es after : List (List Value × SmallVec ℕ)) (row : List Value) (old new : SmallVec ℕ) : Type 0 where
+pub record SetsAt (es after : List (List Value × List ℕ)) (row : List Value) (old new : List ℕ) : Type 0 where
   pub was : Contains es (row, old)
   pub is : Contains after (row, new)
-  pub from : (e : List Value × SmallVec ℕ) → Contains after e → Contains es e ⊎ (e ≡ (row, new))
-  pub rest : (e : List Value × SmallVec ℕ) → Contains es e → Contains after e ⊎ (e ≡ (row, old))
+  pub from : (e : List Value × List ℕ) → Contains after e → Contains es e ⊎ (e ≡ (row, new))
+  pub rest : (e : List Value × List ℕ) → Contains es e → Contains after e ⊎ (e ≡ (row, old))
 
 -- at the place of the row
 sets_there : (test : List Value → Bool) (row d : List Value) → ((k : List Value) → test k ≡ true → row ≡ k)
-    → (es : List (List Value × SmallVec ℕ)) (place : ℕ) (old new : SmallVec ℕ) → place < length (keys_of es)
+    → (es : List (List Value × List ℕ)) (place : ℕ) (old new : List ℕ) → place < length (keys_of es)
     → test (get_or (keys_of es) place d) ≡ true → slice_get (values_of es) place ≡ Some old → SetsAt es (set_value_at es place new) row old new
 sets_there test row d same [] place old new within passes value = absurd (omega (arith, within))
 sets_there test row d same (e ∷ es) zero old new within passes value =
     let key : row ≡ e.0 = same e.0 passes in
     let held : e.1 ≡ old = same_Some e.1 old value in
     let first : e ≡ (row, old) = (λ i. (sym key i, held i)) in
-    let entry : List Value × SmallVec ℕ = (e.0, new) in
+    let entry : List Value × List ℕ = (e.0, new) in
     let changed : entry ≡ (row, new) = (λ i. (sym key i, new)) in record {
       was = (0, omega arith, first);
       is = (0, omega arith, changed);
@@ -53,7 +45,7 @@ sets_there test row d same (e ∷ es) (suc place) old new within passes value =
           (inner.rest other behind)) (first_or_later other e es there);
     }
 
-pub sets_at : (row : List Value) (es : List (List Value × SmallVec ℕ)) (place : ℕ) (old new : SmallVec ℕ) → Some place ≡ position (rows.eq-value.it row) (keys_of es)
+pub sets_at : (row : List Value) (es : List (List Value × List ℕ)) (place : ℕ) (old new : List ℕ) → Some place ≡ position (rows.eq-value.it row) (keys_of es)
     → slice_get (values_of es) place ≡ Some old → SetsAt es (set_value_at es place new) row old new
 sets_at row es place old new found value =
     let at = position-Some (rows.eq-value.it row) (keys_of es) place row (sym found) in
@@ -85,39 +77,39 @@ not_ended_now (Some high) now ended = omega (arith, ended)
 
 -- ---- rows that are so long, with times that rise
 
-abbrev Fit : ℕ → ℕ → List Value × SmallVec ℕ → Type 0
-Fit long last e = (length e.0 ≡ long) × RiseTo last e.1.items × (0 < length e.1.items)
+abbrev Fit : ℕ → ℕ → List Value × List ℕ → Type 0
+Fit long last e = (length e.0 ≡ long) × RiseTo last e.1 × (0 < length e.1)
 
-pub fit_of : (long last : ℕ) (es : List (List Value × SmallVec ℕ)) (row : List Value) (times : SmallVec ℕ) → AreWindowEntries long last es → Contains es (row, times)
-    → (length row ≡ long) × RiseTo last times.items × (0 < length times.items)
+pub fit_of : (long last : ℕ) (es : List (List Value × List ℕ)) (row : List Value) (times : List ℕ) → AreWindowEntries long last es → Contains es (row, times)
+    → (length row ≡ long) × RiseTo last times × (0 < length times)
 fit_of long last es row times kept there = All-contains (Fit long last) es (row, times) kept.fit there
 
-pub least_of : (interval : Interval) (last : ℕ) (es : List (List Value × SmallVec ℕ)) (row : List Value) (times : SmallVec ℕ) → AreLeast interval last es
-    → Contains es (row, times) → AreLeastTimes interval.high interval.low last times.items
-least_of interval last es row times least there = All-contains (λ e. AreLeastTimes interval.high interval.low last e.1.items) es (row, times) least there
+pub least_of : (interval : Interval) (last : ℕ) (es : List (List Value × List ℕ)) (row : List Value) (times : List ℕ) → AreLeast interval last es
+    → Contains es (row, times) → AreLeastTimes interval.high interval.low last times
+least_of interval last es row times least there = All-contains (λ e. AreLeastTimes interval.high interval.low last e.1) es (row, times) least there
 
-pub set_keys : (es : List (List Value × SmallVec ℕ)) (place : ℕ) (new : SmallVec ℕ) → map (λ e. e.0) (set_value_at es place new) ≡ map (λ e. e.0) es
+pub set_keys : (es : List (List Value × List ℕ)) (place : ℕ) (new : List ℕ) → map (λ e. e.0) (set_value_at es place new) ≡ map (λ e. e.0) es
 set_keys [] place new = refl
 set_keys (e ∷ es) zero new = refl
 set_keys (e ∷ es) (suc place) new = ap (λ l. e.0 ∷ l) (set_keys es place new)
 
-pub kept_set : (long last : ℕ) (row : List Value) (es : List (List Value × SmallVec ℕ)) (place : ℕ) (old new : SmallVec ℕ) → AreWindowEntries long last es
-    → SetsAt es (set_value_at es place new) row old new → RiseTo last new.items
-    → 0 < length new.items → AreWindowEntries long last (set_value_at es place new)
+pub kept_set : (long last : ℕ) (row : List Value) (es : List (List Value × List ℕ)) (place : ℕ) (old new : List ℕ) → AreWindowEntries long last es
+    → SetsAt es (set_value_at es place new) row old new → RiseTo last new
+    → 0 < length new → AreWindowEntries long last (set_value_at es place new)
 kept_set long last row es place old new kept sets rise some = record {
   fit = all_from (Fit long last) (set_value_at es place new) (λ e there. ⊎_elim (λ before. All-contains (Fit long last) es e kept.fit before)
       (λ same. subst (Fit long last) (sym same) ((All-contains (Fit long last) es (row, old) kept.fit sets.was).0, rise, some)) (sets.from e there));
   unique = subst HasNoRepeats (sym (set_keys es place new)) kept.unique;
 }
 
-pub least_set : (interval : Interval) (last : ℕ) (row : List Value) (es after : List (List Value × SmallVec ℕ)) (old new : SmallVec ℕ) → AreLeast interval last es → SetsAt es after row old new
-    → AreLeastTimes interval.high interval.low last new.items → AreLeast interval last after
-least_set interval last row es after old new least sets is = all_from (λ e. AreLeastTimes interval.high interval.low last e.1.items) after (λ e there.
-    ⊎_elim (λ before. All-contains (λ x. AreLeastTimes interval.high interval.low last x.1.items) es e least before)
-    (λ same. subst (λ x. AreLeastTimes interval.high interval.low last x.1.items) (sym same) is) (sets.from e there))
+pub least_set : (interval : Interval) (last : ℕ) (row : List Value) (es after : List (List Value × List ℕ)) (old new : List ℕ) → AreLeast interval last es → SetsAt es after row old new
+    → AreLeastTimes interval.high interval.low last new → AreLeast interval last after
+least_set interval last row es after old new least sets is = all_from (λ e. AreLeastTimes interval.high interval.low last e.1) after (λ e there.
+    ⊎_elim (λ before. All-contains (λ x. AreLeastTimes interval.high interval.low last x.1) es e least before)
+    (λ same. subst (λ x. AreLeastTimes interval.high interval.low last x.1) (sym same) is) (sets.from e there))
 
-pub kept_first : (long last : ℕ) (row : List Value) (es after : List (List Value × SmallVec ℕ)) (new : SmallVec ℕ) → AreWindowEntries long last es → length row ≡ long → after
-    ≡ es ++ (row, new) ∷ [] → new.items ≡ last ∷ []
+pub kept_first : (long last : ℕ) (row : List Value) (es after : List (List Value × List ℕ)) (new : List ℕ) → AreWindowEntries long last es → length row ≡ long → after
+    ≡ es ++ (row, new) ∷ [] → new ≡ last ∷ []
     → HasNoRepeats (map (λ e. e.0) after) → AreWindowEntries long last after
 kept_first long last row es after new kept fits grown one unique = record {
   fit = subst (All (Fit long last)) (sym grown) (All-push (Fit long last) es (row, new) kept.fit
@@ -125,10 +117,10 @@ kept_first long last row es after new kept fits grown one unique = record {
   unique = unique;
 }
 
-pub least_first : (interval : Interval) (last : ℕ) (row : List Value) (es after : List (List Value × SmallVec ℕ)) (new : SmallVec ℕ) → AreLeast interval last es → after
-    ≡ es ++ (row, new) ∷ [] → new.items ≡ last ∷ [] → AreLeast interval last after
+pub least_first : (interval : Interval) (last : ℕ) (row : List Value) (es after : List (List Value × List ℕ)) (new : List ℕ) → AreLeast interval last es → after
+    ≡ es ++ (row, new) ∷ [] → new ≡ last ∷ [] → AreLeast interval last after
 least_first interval last row es after new least grown one =
-    subst (AreLeast interval last) (sym grown) (All-push (λ e. AreLeastTimes interval.high interval.low last e.1.items) es (row, new) least
+    subst (AreLeast interval last) (sym grown) (All-push (λ e. AreLeastTimes interval.high interval.low last e.1) es (row, new) least
     (subst (AreLeastTimes interval.high interval.low last) (sym one) (alone interval.high)))
   where
     alone : (high : Option ℕ) → AreLeastTimes high interval.low last (last ∷ [])
@@ -136,81 +128,81 @@ least_first interval last row es after new least grown one =
     alone (Some high) = (omega arith, All-nil _)
 
 -- rows that stay fit as before
-pub kept_fewer : (long last : ℕ) (es after : List (List Value × SmallVec ℕ)) → AreWindowEntries long last es
-    → ((e : List Value × SmallVec ℕ) → Contains after e → Contains es e) → HasNoRepeats (map (λ e. e.0) after) → AreWindowEntries long last after
+pub kept_fewer : (long last : ℕ) (es after : List (List Value × List ℕ)) → AreWindowEntries long last es
+    → ((e : List Value × List ℕ) → Contains after e → Contains es e) → HasNoRepeats (map (λ e. e.0) after) → AreWindowEntries long last after
 kept_fewer long last es after kept among unique = record { fit = all_from (Fit long last) after (λ e there. All-contains (Fit long last) es e kept.fit (among e there)); unique = unique }
 
-pub least_fewer : (interval : Interval) (last : ℕ) (es after : List (List Value × SmallVec ℕ)) → AreLeast interval last es
-    → ((e : List Value × SmallVec ℕ) → Contains after e → Contains es e) → AreLeast interval last after
-least_fewer interval last es after least among = all_from (λ e. AreLeastTimes interval.high interval.low last e.1.items) after
-    (λ e there. All-contains (λ x. AreLeastTimes interval.high interval.low last x.1.items) es e least (among e there))
+pub least_fewer : (interval : Interval) (last : ℕ) (es after : List (List Value × List ℕ)) → AreLeast interval last es
+    → ((e : List Value × List ℕ) → Contains after e → Contains es e) → AreLeast interval last after
+least_fewer interval last es after least among = all_from (λ e. AreLeastTimes interval.high interval.low last e.1) after
+    (λ e there. All-contains (λ x. AreLeastTimes interval.high interval.low last x.1) es e least (among e there))
 
-pub kept_later : (long last now : ℕ) (es : List (List Value × SmallVec ℕ)) → last ≤ now → AreWindowEntries long last es → AreWindowEntries long now es
+pub kept_later : (long last now : ℕ) (es : List (List Value × List ℕ)) → last ≤ now → AreWindowEntries long last es → AreWindowEntries long now es
 kept_later long last now es below kept = record {
-  fit = all_from (Fit long now) es (λ e there. let fit = All-contains (Fit long last) es e kept.fit there in (fit.0, rise_later last now e.1.items below fit.1, fit.2));
+  fit = all_from (Fit long now) es (λ e there. let fit = All-contains (Fit long last) es e kept.fit there in (fit.0, rise_later last now e.1 below fit.1, fit.2));
   unique = kept.unique;
 }
 
 -- keys that the map tells apart do not repeat
-pub unique_from : (es : List (List Value × SmallVec ℕ)) → IsDistinct rows.eq-value.it (keys_of es) → HasNoRepeats (map (λ e. e.0) es)
+pub unique_from : (es : List (List Value × List ℕ)) → IsDistinct rows.eq-value.it (keys_of es) → HasNoRepeats (map (λ e. e.0) es)
 unique_from es distinct = HasNoRepeats-from_distinct rows.eq-value.it derived_row_eq-Decides (keys_of es) distinct
 
 -- ---- a time is added to a row
 
-module _ (interval : Interval) (now : ℕ) (row : List Value) (es after : List (List Value × SmallVec ℕ)) (old new : SmallVec ℕ) (sets : SetsAt es after row old new) where
+module _ (interval : Interval) (now : ℕ) (row : List Value) (es after : List (List Value × List ℕ)) (old new : List ℕ) (sets : SetsAt es after row old new) where
   -- what holds of the times of each entry after it, by what held before or holds of the new ones
-  from_set : (C : List ℕ → ℕ → Type 0) (D : Type 0) (other : List Value) (time : ℕ) → (times : SmallVec ℕ) × Contains after (other, times) × C times.items time
-      → (C new.items time → C old.items time ⊎ D)
-      → ((times : SmallVec ℕ) × Contains es (other, times) × C times.items time) ⊎ (D × (other ≡ row))
+  from_set : (C : List ℕ → ℕ → Type 0) (D : Type 0) (other : List Value) (time : ℕ) → (times : List ℕ) × Contains after (other, times) × C times time
+      → (C new time → C old time ⊎ D)
+      → ((times : List ℕ) × Contains es (other, times) × C times time) ⊎ (D × (other ≡ row))
   from_set C D other time has adds = ⊎_elim (λ before. inl (has.0, before, has.2)) (λ same.
       let same_row : other ≡ row = ap (λ e. e.0) same in
-      ⊎_elim (λ b. inl (subst (λ r. (times : SmallVec ℕ) × Contains es (r, times) × C times.items time) (sym same_row) (old, sets.was, b))) (λ d. inr (d, same_row))
-      (adds (subst (λ t. C t.items time) (ap (λ e. e.1) same) has.2)))
+      ⊎_elim (λ b. inl (subst (λ r. (times : List ℕ) × Contains es (r, times) × C times time) (sym same_row) (old, sets.was, b))) (λ d. inr (d, same_row))
+      (adds (subst (λ t. C t time) (ap (λ e. e.1) same) has.2)))
       (sets.from (other, has.0) has.1)
 
   serves_set : (other : List Value) (time : ℕ) → HasTime es other time
-      → ((t : ℕ) → Contains old.items t → IsServedTime interval.high interval.low now (Contains new.items) t ⊎ IsEndedTime interval.high now t)
+      → ((t : ℕ) → Contains old t → IsServedTime interval.high interval.low now (Contains new) t ⊎ IsEndedTime interval.high now t)
       → IsServedTime interval.high interval.low now (HasTime after other) time ⊎ IsEndedTime interval.high now time
   serves_set other time has serves = ⊎_elim (λ stays. inl (itself interval.high interval.low now (HasTime after other) time (has.0, stays, has.2))) (λ same.
       let same_row : other ≡ row = ap (λ e. e.0) same in
       ⊎_elim
-      (λ by. inl (served_by interval.high interval.low now (Contains new.items) (HasTime after other) time
+      (λ by. inl (served_by interval.high interval.low now (Contains new) (HasTime after other) time
       (λ t there. subst (λ r. HasTime after r t) (sym same_row) (new, sets.is, there)) by)) (λ ended. inr ended)
-      (serves time (subst (λ t. Contains t.items time) (ap (λ e. e.1) same) has.2)))
+      (serves time (subst (λ t. Contains t time) (ap (λ e. e.1) same) has.2)))
       (sets.rest (other, has.0) has.1)
 
-  pub row_at_most : AddsAtMost now old.items new.items → AddAtMost now (λ other. other ≡ row) es after
+  pub row_at_most : AddsAtMost now old new → AddAtMost now (λ other. other ≡ row) es after
   row_at_most adds = record {
     from = λ other time has. from_set Contains (time ≡ now) other time has (adds.from time);
     behind = λ other time has. from_set (λ l t. Contains (drop 1 l) t) (time ≡ now) other time has (adds.behind time);
   }
 
-  pub row_added : AddsTime interval now old.items new.items → AddsTimes interval now (λ other. other ≡ row) es after
+  pub row_added : AddsTime interval now old new → AddsTimes interval now (λ other. other ≡ row) es after
   row_added adds = record {
     serves = λ other time has. serves_set other time has adds.serves;
-    added = λ other same. served_by interval.high interval.low now (Contains new.items) (HasTime after other) now
+    added = λ other same. served_by interval.high interval.low now (Contains new) (HasTime after other) now
         (λ t there. subst (λ r. HasTime after r t) (sym same) (new, sets.is, there)) adds.added;
   }
 
   -- or some are left out
-  pub row_forgets : (high : ℕ) → interval.high ≡ Some high → ForgetsTimes high interval.low now old.items new.items → Forgets interval now es after
+  pub row_forgets : (high : ℕ) → interval.high ≡ Some high → ForgetsTimes high interval.low now old new → Forgets interval now es after
   row_forgets high is forgets = record {
     from = λ other time has. ⊎_elim (λ before. before) (λ none. absurd none.0) (from_set Contains ⊥ other time has (λ there. inl (forgets.from time there)));
     behind = λ other time has. ⊎_elim (λ before. before) (λ none. absurd none.0) (from_set (λ l t. Contains (drop 1 l) t) ⊥ other time has (λ there. inl (forgets.behind time there)));
-    serves = λ other time has. serves_set other time has (λ t there. subst (λ h. IsServedTime h interval.low now (Contains new.items) t ⊎ IsEndedTime h now t) (sym is) (forgets.serves t there));
+    serves = λ other time has. serves_set other time has (λ t there. subst (λ h. IsServedTime h interval.low now (Contains new) t ⊎ IsEndedTime h now t) (sym is) (forgets.serves t there));
   }
 
-  pub row_settled : (high : ℕ) → HasNoRepeats (map (λ e. e.0) after) → RiseTo now new.items → AreLeastTimes (Some high) interval.low now new.items → IsSettledRow high interval.low now after row
+  pub row_settled : (high : ℕ) → HasNoRepeats (map (λ e. e.0) after) → RiseTo now new → AreLeastTimes (Some high) interval.low now new → IsSettledRow high interval.low now after row
   row_settled high unique rise least = λ time. (
-    λ has. least_live high interval.low now new.items rise least time (subst (λ t. Contains t.items time) (one_entry after unique row has.0 new has.1 sets.is) has.2),
-    λ has. least_near high interval.low now new.items least time (subst (λ t. Contains (drop 1 t.items) time) (one_entry after unique row has.0 new has.1 sets.is) has.2),
+    λ has. least_live high interval.low now new rise least time (subst (λ t. Contains t time) (one_entry after unique row has.0 new has.1 sets.is) has.2),
+    λ has. least_near high interval.low now new least time (subst (λ t. Contains (drop 1 t) time) (one_entry after unique row has.0 new has.1 sets.is) has.2),
   )
 
-module _ (interval : Interval) (now : ℕ) (row : List Value) (es after : List (List Value × SmallVec ℕ)) (new : SmallVec ℕ) (grown : after ≡ es ++ (row, new) ∷ []) (one : new.items ≡ now ∷ []) where
-  first_from : (other : List Value) (times : SmallVec ℕ) → Contains after (other, times) → Contains es (other, times) ⊎ ((times.items ≡ now ∷ []) × (other ≡ row))
+module _ (interval : Interval) (now : ℕ) (row : List Value) (es after : List (List Value × List ℕ)) (new : List ℕ) (grown : after ≡ es ++ (row, new) ∷ []) (one : new ≡ now ∷ []) where
+  first_from : (other : List Value) (times : List ℕ) → Contains after (other, times) → Contains es (other, times) ⊎ ((times ≡ now ∷ []) × (other ≡ row))
   first_from other times there = ⊎_elim (λ before. inl before) (λ last.
       let same : (row, new) ≡ (other, times) = ⊎_elim (λ h. h) (λ b. absurd (none_in_nil (other, times) b)) (first_or_later (other, times) (row, new) [] last) in
-      inr (ap (λ e. e.1.items) (sym same) ∙ one, ap (λ e. e.0) (sym same)))
+      inr (ap (λ e. e.1) (sym same) ∙ one, ap (λ e. e.0) (sym same)))
       (Contains-append_cases es ((row, new) ∷ []) (other, times) (subst (λ l. Contains l (other, times)) grown there))
 
   pub first_at_most : AddAtMost now (λ other. other ≡ row) es after
@@ -234,21 +226,21 @@ missing None (Some y) not_some same = absurd (false≢true same)
 missing (Some x) o not_some same = absurd (not_some x refl)
 
 -- what a new key leaves
-pub grown_by : {S : Type 0} (m : HashMap (List Value) (SmallVec ℕ) S) (row key : List Value) (times : SmallVec ℕ) (after : List (List Value × SmallVec ℕ))
+pub grown_by : {S : Type 0} (m : HashMap (List Value) (List ℕ) S) (row key : List Value) (times : List ℕ) (after : List (List Value × List ℕ))
     → get_by (rows.eq-value.it row) m ≡ None → key ≡ row
     → after ≡ insert_entry rows.eq-value.it m.entries key times → after ≡ m.entries ++ (row, times) ∷ []
 grown_by m row key times after none same is = is ∙ ap (λ k. insert_entry rows.eq-value.it m.entries k times) same ∙ insert_entry-new rows.eq-value.it m row times none
 
 -- ---- rows of a list, one after another
 
-pub at_most_then : (now : ℕ) (R : List Value → Type 0) (row : List Value) (es middle after : List (List Value × SmallVec ℕ)) → R row → AddAtMost now R es middle
+pub at_most_then : (now : ℕ) (R : List Value → Type 0) (row : List Value) (es middle after : List (List Value × List ℕ)) → R row → AddAtMost now R es middle
     → AddAtMost now (λ other. other ≡ row) middle after → AddAtMost now R es after
 at_most_then now R row es middle after holds first second = record {
   from = λ other time has. ⊎_elim (first.from other time) (λ added. inr (added.0, subst R (sym added.1) holds)) (second.from other time has);
   behind = λ other time has. ⊎_elim (first.behind other time) (λ added. inr (added.0, subst R (sym added.1) holds)) (second.behind other time has);
 }
 
-pub adds_then : (interval : Interval) (now : ℕ) (done : List (List Value)) (row : List Value) (es middle after : List (List Value × SmallVec ℕ)) → AddsTimes interval now (Contains done) es middle
+pub adds_then : (interval : Interval) (now : ℕ) (done : List (List Value)) (row : List Value) (es middle after : List (List Value × List ℕ)) → AddsTimes interval now (Contains done) es middle
     → AddsTimes interval now (λ other. other ≡ row) middle after → AddsTimes interval now (Contains (done ++ row ∷ [])) es after
 adds_then interval now done row es middle after first second = record {
   serves = λ other time has. ⊎_elim (served_on interval.high interval.low now (HasTime middle other) (HasTime after other) time (second.serves other)) (λ ended. inr ended)
@@ -260,7 +252,7 @@ adds_then interval now done row es middle after first second = record {
       (Contains-append_cases done (row ∷ []) other there);
 }
 
-pub forgets_then : (interval : Interval) (now : ℕ) (es middle after : List (List Value × SmallVec ℕ)) → Forgets interval now es middle → Forgets interval now middle after
+pub forgets_then : (interval : Interval) (now : ℕ) (es middle after : List (List Value × List ℕ)) → Forgets interval now es middle → Forgets interval now middle after
     → Forgets interval now es after
 forgets_then interval now es middle after first second = record {
   from = λ row time has. first.from row time (second.from row time has);
@@ -269,14 +261,14 @@ forgets_then interval now es middle after first second = record {
 }
 
 -- a row that is settled stays so
-pub settled_then : (high : ℕ) (interval : Interval) (now : ℕ) (row : List Value) (middle after : List (List Value × SmallVec ℕ)) → Forgets interval now middle after
+pub settled_then : (high : ℕ) (interval : Interval) (now : ℕ) (row : List Value) (middle after : List (List Value × List ℕ)) → Forgets interval now middle after
     → IsSettledRow high interval.low now middle row → IsSettledRow high interval.low now after row
 settled_then high interval now row middle after second settled = λ time. (λ has. (settled time).0 (second.from row time has), λ has. (settled time).1 (second.behind row time has))
 
-pub keeps_all : (es : List (List Value × SmallVec ℕ)) → KeepsRows (λ row. Contains [] row → ⊥) es es
+pub keeps_all : (es : List (List Value × List ℕ)) → KeepsRows (λ row. Contains [] row → ⊥) es es
 keeps_all es = record { among = λ e there. there; exact = λ row time. (λ has. (has, λ there. none_in_nil row there), λ both. both.0); unique = λ unique. unique }
 
-pub keeps_then : (done : List (List Value)) (row : List Value) (es middle after : List (List Value × SmallVec ℕ)) → KeepsRows (λ other. Contains done other → ⊥) es middle
+pub keeps_then : (done : List (List Value)) (row : List Value) (es middle after : List (List Value × List ℕ)) → KeepsRows (λ other. Contains done other → ⊥) es middle
     → KeepsRows (λ other. other ≡ row → ⊥) middle after → KeepsRows (λ other. Contains (done ++ row ∷ []) other → ⊥) es after
 keeps_then done row es middle after first second = record {
   among = λ e there. first.among e (second.among e there);
@@ -310,24 +302,24 @@ there_is [] i below none = omega (arith, below)
 there_is (y ∷ xs) zero below none = none-some y none
 there_is (y ∷ xs) (suc i) below none = there_is xs i (omega (arith, below)) none
 
-pub record TakesAt (es after : List (List Value × SmallVec ℕ)) (place : ℕ) : Type 0 where
-  pub taken : List Value × SmallVec ℕ
+pub record TakesAt (es after : List (List Value × List ℕ)) (place : ℕ) : Type 0 where
+  pub taken : List Value × List ℕ
   pub at : taken ≡ get_or es place taken
   pub others : IsPermutation es (taken ∷ after)
 
-pub takes_at : (result : Option (List Value × SmallVec ℕ)) (es after : List (List Value × SmallVec ℕ)) (place : ℕ) → result ≡ slice_get es place → place < length es
+pub takes_at : (result : Option (List Value × List ℕ)) (es after : List (List Value × List ℕ)) (place : ℕ) → result ≡ slice_get es place → place < length es
     → IfSome result (λ p. after ≡ swap_remove es place p) → (t : TakesAt es after place) × (result ≡ Some t.taken)
 takes_at None es after place is below left = absurd (there_is es place below is)
 takes_at (Some p) es after place is below left =
     let at : p ≡ get_or es place p = got es place p (sym is) in
     (record { taken = p; at = at; others = subst (λ l. IsPermutation es (p ∷ l)) (sym left) (IsPermutation-swap_remove es place p below at) }, refl)
 
-key_at : (es : List (List Value × SmallVec ℕ)) (place : ℕ) (d : List Value × SmallVec ℕ) → get_or (keys_of es) place d.0 ≡ (get_or es place d).0
+key_at : (es : List (List Value × List ℕ)) (place : ℕ) (d : List Value × List ℕ) → get_or (keys_of es) place d.0 ≡ (get_or es place d).0
 key_at [] place d = refl
 key_at (e ∷ es) zero d = refl
 key_at (e ∷ es) (suc place) d = key_at es place d
 
-absent : (test : List Value → Bool) (es : List (List Value × SmallVec ℕ)) → lookup test es ≡ None → (e : List Value × SmallVec ℕ) → Contains es e → test e.0 ≡ true → ⊥
+absent : (test : List Value → Bool) (es : List (List Value × List ℕ)) → lookup test es ≡ None → (e : List Value × List ℕ) → Contains es e → test e.0 ≡ true → ⊥
 absent test [] none e there passes = none_in_nil e there
 absent test (f ∷ es) none e there passes = by (test f.0) refl none (λ rest behind. absent test es rest e behind passes)
   where
@@ -335,11 +327,11 @@ absent test (f ∷ es) none e there passes = by (test f.0) refl none (λ rest be
     by true is found others = none-some f.1 (sym found)
     by false is rest others = ⊎_elim (λ same. false≢true (sym is ∙ ap (λ x. test x.0) same ∙ passes)) (others rest) (first_or_later e f es there)
 
-module _ (row : List Value) (es after : List (List Value × SmallVec ℕ)) (place : ℕ) (t : TakesAt es after place) where
-  among_taken : (e : List Value × SmallVec ℕ) → Contains after e → Contains es e
+module _ (row : List Value) (es after : List (List Value × List ℕ)) (place : ℕ) (t : TakesAt es after place) where
+  among_taken : (e : List Value × List ℕ) → Contains after e → Contains es e
   among_taken e there = Contains-permutation (t.taken ∷ after) es e (IsPermutation-sym es (t.taken ∷ after) t.others) (later e t.taken after there)
 
-  taken_or_stays : (e : List Value × SmallVec ℕ) → Contains es e → (t.taken ≡ e) ⊎ Contains after e
+  taken_or_stays : (e : List Value × List ℕ) → Contains es e → (t.taken ≡ e) ⊎ Contains after e
   taken_or_stays e there = first_or_later e t.taken after (Contains-permutation es (t.taken ∷ after) e t.others there)
 
   is_taken : Some place ≡ position (rows.eq-value.it row) (keys_of es) → row ≡ t.taken.0
@@ -347,7 +339,7 @@ module _ (row : List Value) (es after : List (List Value × SmallVec ℕ)) (plac
       let at = position-Some (rows.eq-value.it row) (keys_of es) place t.taken.0 (sym found) in
       (derived_row_eq-Decides row t.taken.0).0 (ap (λ k. rows.eq-value.it row k) (ap (λ e. e.0) t.at ∙ sym (key_at es place t.taken)) ∙ at.1)
 
-  gone : Some place ≡ position (rows.eq-value.it row) (keys_of es) → lookup (rows.eq-value.it t.taken.0) after ≡ None → (times : SmallVec ℕ) → Contains after (row, times) → ⊥
+  gone : Some place ≡ position (rows.eq-value.it row) (keys_of es) → lookup (rows.eq-value.it t.taken.0) after ≡ None → (times : List ℕ) → Contains after (row, times) → ⊥
   gone found none times there = absent (rows.eq-value.it t.taken.0) after none (row, times) there ((derived_row_eq-Decides t.taken.0 row).1 (sym (is_taken found)))
 
   pub forgets_at : Some place ≡ position (rows.eq-value.it row) (keys_of es) → lookup (rows.eq-value.it t.taken.0) after ≡ None → HasNoRepeats (map (λ e. e.0) after)
@@ -362,11 +354,11 @@ module _ (row : List Value) (es after : List (List Value × SmallVec ℕ)) (plac
   }
 
   -- it is emitted with times that are all past the end
-  pub ended_at : (interval : Interval) (now : ℕ) → ((time : ℕ) → Contains t.taken.1.items time → IsEndedTime interval.high now time) → Forgets interval now es after
+  pub ended_at : (interval : Interval) (now : ℕ) → ((time : ℕ) → Contains t.taken.1 time → IsEndedTime interval.high now time) → Forgets interval now es after
   ended_at interval now ended = record {
     from = λ other time has. (has.0, among_taken (other, has.0) has.1, has.2);
     behind = λ other time has. (has.0, among_taken (other, has.0) has.1, has.2);
-    serves = λ other time has. ⊎_elim (λ same. inr (ended time (subst (λ x. Contains x.1.items time) (sym same) has.2)))
+    serves = λ other time has. ⊎_elim (λ same. inr (ended time (subst (λ x. Contains x.1 time) (sym same) has.2)))
         (λ stays. inl (itself interval.high interval.low now (HasTime after other) time (has.0, stays, has.2)))
         (taken_or_stays (other, has.0) has.1);
   }
@@ -377,24 +369,24 @@ module _ (row : List Value) (es after : List (List Value × SmallVec ℕ)) (plac
   pub kept_at : (long last : ℕ) → HasNoRepeats (map (λ e. e.0) after) → AreWindowEntries long last es → AreWindowEntries long last after
   kept_at long last unique kept = kept_fewer long last es after kept among_taken unique
 
-pub forgets_missing : (row : List Value) (es : List (List Value × SmallVec ℕ)) → lookup (rows.eq-value.it row) es ≡ None → KeepsRows (λ other. other ≡ row → ⊥) es es
+pub forgets_missing : (row : List Value) (es : List (List Value × List ℕ)) → lookup (rows.eq-value.it row) es ≡ None → KeepsRows (λ other. other ≡ row → ⊥) es es
 forgets_missing row es none = record {
   among = λ e there. there;
   exact = λ other time. (λ has. (has, λ same. absent (rows.eq-value.it row) es none (other, has.0) has.1 ((derived_row_eq-Decides row other).1 (sym same))), λ both. both.0);
   unique = λ unique. unique;
 }
 
-pub settled_missing : (high low now : ℕ) (row : List Value) (es : List (List Value × SmallVec ℕ)) → lookup (rows.eq-value.it row) es ≡ None → IsSettledRow high low now es row
+pub settled_missing : (high low now : ℕ) (row : List Value) (es : List (List Value × List ℕ)) → lookup (rows.eq-value.it row) es ≡ None → IsSettledRow high low now es row
 settled_missing high low now row es none = λ time. (λ has. absurd (not_there has.0 has.1), λ has. absurd (not_there has.0 has.1))
   where
-    not_there : (times : SmallVec ℕ) → Contains es (row, times) → ⊥
+    not_there : (times : List ℕ) → Contains es (row, times) → ⊥
     not_there times there = absent (rows.eq-value.it row) es none (row, times) there ((derived_row_eq-Decides row row).1 refl)
 
 -- ---- what a table keeps
 
-module _ {F : Type 0} (T : F → List Value → SmallVec ℕ → Bool → SmallVec ℕ → F → Type 0) (S : List Value → Type 0) (X : Type 0) (f : F)
-    (says : (k : List Value) (v : SmallVec ℕ) (b : Bool) (w : SmallVec ℕ) (g : F) → T f k v b w g → (IsTrue b ↔ S k) × (w ≡ v) × (g ≡ f) × X) where
-  stays : (es kept : List (List Value × SmallVec ℕ)) → RetainsPairs T f es kept → (e : List Value × SmallVec ℕ) → Contains kept e ↔ (Contains es e × S e.0)
+module _ {F : Type 0} (T : F → List Value → List ℕ → Bool → List ℕ → F → Type 0) (S : List Value → Type 0) (X : Type 0) (f : F)
+    (says : (k : List Value) (v : List ℕ) (b : Bool) (w : List ℕ) (g : F) → T f k v b w g → (IsTrue b ↔ S k) × (w ≡ v) × (g ≡ f) × X) where
+  stays : (es kept : List (List Value × List ℕ)) → RetainsPairs T f es kept → (e : List Value × List ℕ) → Contains kept e ↔ (Contains es e × S e.0)
   stays [] kept h e = (λ there. absurd (none_in_nil e (subst (λ l. Contains l e) h there)), λ both. absurd (none_in_nil e both.0))
   stays (x ∷ es) kept h e =
       let s = says x.0 x.1 h.0 h.1 h.2 h.4 in
@@ -413,11 +405,11 @@ module _ {F : Type 0} (T : F → List Value → SmallVec ℕ → Bool → SmallV
       )
 
   -- and what is known once the first is asked for
-  pub known_said : (es kept : List (List Value × SmallVec ℕ)) → RetainsPairs T f es kept → IsAnyRow es → X
+  pub known_said : (es kept : List (List Value × List ℕ)) → RetainsPairs T f es kept → IsAnyRow es → X
   known_said [] kept h any = absurd (none_in_nil any.0 any.1)
   known_said (e ∷ es) kept h any = (says e.0 e.1 h.0 h.1 h.2 h.4).3
 
-  pub keeps_said : (es kept : List (List Value × SmallVec ℕ)) → RetainsPairs T f es kept → HasNoRepeats (map (λ e. e.0) kept) → KeepsRows S es kept
+  pub keeps_said : (es kept : List (List Value × List ℕ)) → RetainsPairs T f es kept → HasNoRepeats (map (λ e. e.0) kept) → KeepsRows S es kept
   keeps_said es kept h unique = record {
     unique = λ before. unique;
     among = λ e there. ((stays es kept h e).0 there).0;
@@ -435,16 +427,16 @@ pub item_there : (rows : List (List Value)) (i : ℕ) (row : List Value) → i <
 item_there rows i row below is = subst (Contains rows) (sym is) (Contains-get_or rows i row below)
 
 -- the rows that are out, and those that the rest of the entries give
-module _ (interval : Interval) (now : ℕ) (S : List Value → Type 0) (All : List Value → Type 0) (e : List Value × SmallVec ℕ) (left rest : List (List Value × SmallVec ℕ))
+module _ (interval : Interval) (now : ℕ) (S : List Value → Type 0) (All : List Value → Type 0) (e : List Value × List ℕ) (left rest : List (List Value × List ℕ))
     (is : left ≡ e ∷ rest) (out : List (List Value))
     (so_far : (row : List Value) → (Contains out row ⊎ GivesRow interval now S left row) ↔ All row) where
   given_later : (row : List Value) → GivesRow interval now S rest row → GivesRow interval now S left row
   given_later row g = ((g.0.0, subst (λ l. Contains l (row, g.0.0)) (sym is) (later (row, g.0.0) e rest g.0.1), g.0.2), g.1)
 
-  first_or_rest : (row : List Value) (times : SmallVec ℕ) → Contains left (row, times) → (e ≡ (row, times)) ⊎ Contains rest (row, times)
+  first_or_rest : (row : List Value) (times : List ℕ) → Contains left (row, times) → (e ≡ (row, times)) ⊎ Contains rest (row, times)
   first_or_rest row times there = first_or_later (row, times) e rest (subst (λ l. Contains l (row, times)) is there)
 
-  pub gives_more : (after : List (List Value)) (key : List Value) → key ≡ e.0 → IsSomeIn interval now e.1.items → S e.0 → after ≡ out ++ key ∷ []
+  pub gives_more : (after : List (List Value)) (key : List Value) → key ≡ e.0 → IsSomeIn interval now e.1 → S e.0 → after ≡ out ++ key ∷ []
       → (row : List Value) → (Contains after row ⊎ GivesRow interval now S rest row) ↔ All row
   gives_more after key same some survives grown row = (
     λ either. ⊎_elim
@@ -459,16 +451,16 @@ module _ (interval : Interval) (now : ℕ) (S : List Value → Type 0) (All : Li
         ((so_far row).1 all),
   )
 
-  pub gives_no_more : (IsSomeIn interval now e.1.items × S e.0 → ⊥) → (row : List Value) → (Contains out row ⊎ GivesRow interval now S rest row) ↔ All row
+  pub gives_no_more : (IsSomeIn interval now e.1 × S e.0 → ⊥) → (row : List Value) → (Contains out row ⊎ GivesRow interval now S rest row) ↔ All row
   gives_no_more not_it row = (
     λ either. (so_far row).0 (⊎_elim (λ before. inl before) (λ g. inr (given_later row g)) either),
     λ all. ⊎_elim (λ before. inl before)
-        (λ g. ⊎_elim (λ first. absurd (not_it (subst (λ x. IsSomeIn interval now x.1.items × S x.0) (sym first) (g.0.2, g.1)))) (λ behind. inr ((g.0.0, behind, g.0.2), g.1))
+        (λ g. ⊎_elim (λ first. absurd (not_it (subst (λ x. IsSomeIn interval now x.1 × S x.0) (sym first) (g.0.2, g.1)))) (λ behind. inr ((g.0.0, behind, g.0.2), g.1))
         (first_or_rest row g.0.0 g.0.1))
         ((so_far row).1 all),
   )
 
-pub gives_all : (interval : Interval) (now : ℕ) (S : List Value → Type 0) (All : List Value → Type 0) (left : List (List Value × SmallVec ℕ)) (out : List (List Value)) → left ≡ []
+pub gives_all : (interval : Interval) (now : ℕ) (S : List Value → Type 0) (All : List Value → Type 0) (left : List (List Value × List ℕ)) (out : List (List Value)) → left ≡ []
     → ((row : List Value) → (Contains out row ⊎ GivesRow interval now S left row) ↔ All row) → (row : List Value) → Contains out row ↔ All row
 gives_all interval now S All left out is so_far row = (
   λ there. (so_far row).0 (inl there),
@@ -476,10 +468,10 @@ gives_all interval now S All left out is so_far row = (
 )
 
 -- what is known once some row is given
-pub given_more : (interval : Interval) (now : ℕ) (X Given : Type 0) (e : List Value × SmallVec ℕ) (left rest : List (List Value × SmallVec ℕ)) → left ≡ e ∷ rest → (IsSomeIn interval now e.1.items → X)
+pub given_more : (interval : Interval) (now : ℕ) (X Given : Type 0) (e : List Value × List ℕ) (left rest : List (List Value × List ℕ)) → left ≡ e ∷ rest → (IsSomeIn interval now e.1 → X)
     → (Given → X ⊎ GivesSomeRow interval now left) → Given → X ⊎ GivesSomeRow interval now rest
 given_more interval now X Given e left rest is first before given = ⊎_elim (λ known. inl known)
-    (λ g. ⊎_elim (λ same. inl (first (subst (λ x. IsSomeIn interval now x.1.items) (sym same) g.1.0.2))) (λ behind. inr (g.0, ((g.1.0.0, behind, g.1.0.2), tt)))
+    (λ g. ⊎_elim (λ same. inl (first (subst (λ x. IsSomeIn interval now x.1) (sym same) g.1.0.2))) (λ behind. inr (g.0, ((g.1.0.0, behind, g.1.0.2), tt)))
     (first_or_later (g.0, g.1.0.0) e rest (subst (λ l. Contains l (g.0, g.1.0.0)) is g.1.0.1))) (before given)
 
 -- the first of the rest is put last
@@ -513,7 +505,7 @@ grows old done row out after key so_far is grown r = (
 )
 
 -- the times at a place
-pub times_at : (es : List (List Value × SmallVec ℕ)) (place : ℕ) (d : List Value × SmallVec ℕ) (times : SmallVec ℕ) → place < length es → slice_get (values_of es) place
+pub times_at : (es : List (List Value × List ℕ)) (place : ℕ) (d : List Value × List ℕ) (times : List ℕ) → place < length es → slice_get (values_of es) place
     ≡ Some times → (get_or es place d).1 ≡ times
 times_at [] place d times below is = absurd (omega (arith, below))
 times_at (e ∷ es) zero d times below is = same_Some e.1 times is

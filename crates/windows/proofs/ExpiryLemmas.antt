@@ -1,9 +1,7 @@
 -- What is left of rows and steps at a time, where each row of an ended step was settled, and then each of one that is far.
-use Rattle.windows.proofs.Vocabulary.{◌≡◌, ⊎_elim, ℕ, ◌-◌, ◌<◌, ◌≤◌, List, [], ◌∷◌, drop}
-use Rattle.windows.proofs.Vocabulary.{All, Contains, Option, Some, sym, subst, arith, All-contains, SmallVec, Interval}
-use Rattle.windows.proofs.Vocabulary.{Value, cases_le, all_from, later, AreWindowEntries, AreLeast, Forgets, HasBehind}
-use Rattle.windows.proofs.Vocabulary.{HasTime, IsSettledRow, Queue, AreInReach, AreQueued, AreUpToTime, IsInStep}
-use Rattle.windows.proofs.Vocabulary.{LetsGo, waiting_of, IsEndedTime, AreLeastTimes}
+use Rattle.windows.proofs.Vocabulary.{◌≡◌, ⊎_elim, ℕ, ◌-◌, ◌<◌, ◌≤◌, List, [], ◌∷◌, drop, All, Contains, Option, Some, sym, subst, arith, All-contains, Interval, Value, cases_le, all_from, later}
+use Rattle.windows.proofs.Vocabulary.{AreWindowEntries, AreLeast, Forgets, HasBehind, HasTime, IsSettledRow, Queue, AreInReach, AreQueued, AreUpToTime, IsInStep, LetsGo, waiting_of, IsEndedTime}
+use Rattle.windows.proofs.Vocabulary.{AreLeastTimes}
 use Rattle.windows.proofs.EntryLemmas.{fit_of, least_of}
 use Rattle.windows.proofs.TimeLemmas.{least_from, least_near}
 
@@ -11,8 +9,8 @@ behind_among : (times : List ℕ) (time : ℕ) → Contains (drop 1 times) time 
 behind_among [] time there = there
 behind_among (t ∷ times) time there = later time t times there
 
-has_behind : (es : List (List Value × SmallVec ℕ)) (row : List Value) (time : ℕ) → HasBehind es row time → HasTime es row time
-has_behind es row time has = (has.0, has.1, behind_among has.0.items time has.2)
+has_behind : (es : List (List Value × List ℕ)) (row : List Value) (time : ℕ) → HasBehind es row time → HasTime es row time
+has_behind es row time has = (has.0, has.1, behind_among has.0 time has.2)
 
 pub still_up_to : (Gone Passed : ℕ → Type 0) (now : ℕ) (before after : Queue) → LetsGo Gone Passed before after → AreUpToTime now before.steps → AreUpToTime now after.steps
 still_up_to Gone Passed now before after goes up_to = all_from (λ s. s.time ≤ now) after.steps (λ step there. All-contains (λ s. s.time ≤ now) before.steps step up_to (goes.among step there))
@@ -22,7 +20,7 @@ pub still_in_reach : (high : Option ℕ) (end now : ℕ) (Gone Passed : ℕ → 
 still_in_reach high end now Gone Passed before after is goes live = subst (λ h. AreInReach h now after.steps) (sym is)
     (all_from (λ s. now - s.time ≤ end) after.steps (λ step there. All-contains (λ s. now - s.time ≤ end) before.steps step live (goes.among step there)))
 
-module _ (interval : Interval) (high last now : ℕ) (es e1 : List (List Value × SmallVec ℕ)) (q0 q1 : Queue) (is : interval.high ≡ Some high)
+module _ (interval : Interval) (high last now : ℕ) (es e1 : List (List Value × List ℕ)) (q0 q1 : Queue) (is : interval.high ≡ Some high)
     (queued : AreQueued es q0) (f1 : Forgets interval now es e1)
     (s1 : (row : List Value) (time : ℕ) → IsInStep q0.steps row time → IsEndedTime (Some high) now time → IsSettledRow high interval.low now e1 row)
     (l1 : LetsGo (IsEndedTime (Some high) now) (IsEndedTime (Some high) now) q0 q1) where
@@ -44,15 +42,15 @@ module _ (interval : Interval) (high last now : ℕ) (es e1 : List (List Value �
 
   -- where 0 is far enough, no row has more than one time
   pub least1 : (long : ℕ) → AreWindowEntries long now e1 → AreLeast interval last es → (0 < interval.low → ⊥) → AreLeast interval now e1
-  least1 long kept least near = all_from (λ e. AreLeastTimes interval.high interval.low now e.1.items) e1 (λ e there.
-      subst (λ h. AreLeastTimes h interval.low now e.1.items) (sym is)
-      (least_from high interval.low now e.1.items (fit_of long now e1 e.0 e.1 kept there).2 (λ time has. live e.0 time (e.1, there, has))
+  least1 long kept least near = all_from (λ e. AreLeastTimes interval.high interval.low now e.1) e1 (λ e there.
+      subst (λ h. AreLeastTimes h interval.low now e.1) (sym is)
+      (least_from high interval.low now e.1 (fit_of long now e1 e.0 e.1 kept there).2 (λ time has. live e.0 time (e.1, there, has))
       (λ time has. let was = f1.behind e.0 time (e.1, there, has) in
-      let left : last - time < interval.low = least_near high interval.low last was.0.items
-      (subst (λ h. AreLeastTimes h interval.low last was.0.items) is (least_of interval last es e.0 was.0 least was.1)) time was.2 in
+      let left : last - time < interval.low = least_near high interval.low last was.0
+      (subst (λ h. AreLeastTimes h interval.low last was.0) is (least_of interval last es e.0 was.0 least was.1)) time was.2 in
       absurd (near (omega (arith, left))))))
 
-  module _ (e2 : List (List Value × SmallVec ℕ)) (q2 : Queue) (f2 : Forgets interval now e1 e2)
+  module _ (e2 : List (List Value × List ℕ)) (q2 : Queue) (f2 : Forgets interval now e1 e2)
       (s2 : (row : List Value) (time : ℕ) → IsInStep (waiting_of q1) row time → interval.low ≤ now - time → IsSettledRow high interval.low now e2 row)
       (l2 : LetsGo (λ _. ⊥) (λ time. interval.low ≤ now - time) q1 q2) where
     near2 : (row : List Value) (time : ℕ) → HasBehind e2 row time → now - time < interval.low
@@ -68,7 +66,7 @@ module _ (interval : Interval) (high last now : ℕ) (es e1 : List (List Value �
     }
 
     pub least2 : (long : ℕ) → AreWindowEntries long now e2 → AreLeast interval now e2
-    least2 long kept = all_from (λ e. AreLeastTimes interval.high interval.low now e.1.items) e2 (λ e there.
-        subst (λ h. AreLeastTimes h interval.low now e.1.items) (sym is)
-        (least_from high interval.low now e.1.items (fit_of long now e2 e.0 e.1 kept there).2 (λ time has. live e.0 time (f2.from e.0 time (e.1, there, has)))
+    least2 long kept = all_from (λ e. AreLeastTimes interval.high interval.low now e.1) e2 (λ e there.
+        subst (λ h. AreLeastTimes h interval.low now e.1) (sym is)
+        (least_from high interval.low now e.1 (fit_of long now e2 e.0 e.1 kept there).2 (λ time has. live e.0 time (f2.from e.0 time (e.1, there, has)))
         (λ time has. near2 e.0 time (e.1, there, has))))

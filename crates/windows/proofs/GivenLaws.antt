@@ -1,15 +1,9 @@
 -- Laws of the tables that windows and slots answer.
-use Rattle.windows.proofs.Vocabulary.{first_or_later, here, later, none_in_nil, same_at, same_lists_at, Contains-filter}
-use Rattle.windows.proofs.Vocabulary.{Contains-from_filter, Contains-map, Contains-from_map, Interval, VarId, Value}
-use Rattle.windows.proofs.Vocabulary.{IsUpTo, IsIn, Valuation, ◌∙◌, ◌⊎◌, ⊎_elim, ℕ, ◌-◌, ◌≤◌}
-use Rattle.windows.proofs.Vocabulary.{leb, sym, arith, Option, None, Some, refl, ◌≡◌, inl, inr, Bool, true}
-use Rattle.windows.proofs.Vocabulary.{◌||◌, List, [], ◌∷◌, Contains, ap, map, ◌↔◌, IsTrue, false, subst}
-use Rattle.windows.proofs.Vocabulary.{false≢true, leb_tells, Decides-and, Decides-like, Decides-or, Decides-not}
-use Rattle.windows.proofs.Vocabulary.{Contains-append_cases, Contains-append_left, Contains-append_right, Decides}
-use Rattle.windows.proofs.Vocabulary.{list_any, if◌then◌else◌, row_cell, Relation, AgreesWithRow, HasValuation}
-use Rattle.windows.proofs.Vocabulary.{LastStep, is_up_to, is_in, is_some_in, have_same_cells, survives_among}
-use Rattle.windows.proofs.Vocabulary.{survives_outside, rows_within, window_given, is_given, rows_of_last}
-use Rattle.windows.proofs.Vocabulary.{given_by_slot, cells_eq-Decides, GivesLast, LastHasColumns, Slot, Stores}
+use Rattle.windows.proofs.Vocabulary.{first_or_later, here, later, none_in_nil, same_at, same_lists_at, Contains-filter, Contains-from_filter, Contains-map, Contains-from_map, Interval, VarId, Value}
+use Rattle.windows.proofs.Vocabulary.{IsUpTo, IsIn, Valuation, ◌∙◌, ◌⊎◌, ⊎_elim, ℕ, ◌-◌, ◌≤◌, leb, sym, arith, Option, None, Some, refl, ◌≡◌, inl, inr, Bool, true, ◌||◌, List, [], ◌∷◌, Contains, ap}
+use Rattle.windows.proofs.Vocabulary.{map, ◌↔◌, IsTrue, false, subst, false≢true, leb_tells, Decides-and, Decides-like, Decides-or, Decides-not, Contains-append_cases, Contains-append_left}
+use Rattle.windows.proofs.Vocabulary.{Contains-append_right, Decides, list_any, if◌then◌else◌, row_cell, Relation, AgreesWithRow, HasValuation, LastStep, is_up_to, is_in, is_some_in, have_same_cells}
+use Rattle.windows.proofs.Vocabulary.{survives_among, survives_outside, rows_within, window_given, is_given, rows_of_last, given_by_slot, cells_eq-Decides, GivesLast, LastHasColumns, Slot, Stores}
 use Rattle.windows.proofs.Vocabulary.{pairs_of_last, IsSomeIn, Window, AnswersBy, pair}
 use Rattle.std.specs.List.{filter}
 

@@ -1,9 +1,6 @@
 -- What a list of steps holds, step by step.
-use Rattle.windows.proofs.Vocabulary.{◌≡◌, ◌↔◌, ◌⊎◌, inl, inr, ⊎_elim, ℕ, ◌-◌, List, []}
-use Rattle.windows.proofs.Vocabulary.{◌∷◌, ◌++◌, length, All, refl, sym, ap, subst, arith, length-append}
-use Rattle.windows.proofs.Vocabulary.{append_assoc, ◌∙◌, All-push, All-nil, All-contains, Contains-append_right}
-use Rattle.windows.proofs.Vocabulary.{IsIn, Valuation, all_front, HasValuation, IsHeld, CommittedStep, NothingAtFirst}
-use Rattle.windows.proofs.Vocabulary.{OneStepMore}
+use Rattle.windows.proofs.Vocabulary.{◌≡◌, ◌↔◌, ◌⊎◌, inl, inr, ⊎_elim, ℕ, ◌-◌, List, [], ◌∷◌, ◌++◌, length, All, refl, sym, ap, subst, arith, length-append, append_assoc, ◌∙◌, All-push, All-nil}
+use Rattle.windows.proofs.Vocabulary.{All-contains, Contains-append_right, IsIn, Valuation, all_front, HasValuation, IsHeld, CommittedStep, NothingAtFirst, OneStepMore}
 
 -- where two lists one after the other are split at an item: in the first, or in the second
 split_joined : {X : Type 0} (xs ys before after : List X) (y : X) → xs ++ ys ≡ before ++ y ∷ after

@@ -1,12 +1,9 @@
 -- Laws of lists that rise, and of what a window or a slot has: a row with a time is so the valuation that it stands for
 -- with that time.
-use Rattle.windows.proofs.Vocabulary.{here, later, first_or_later, none_in_nil, Contains-from_map, Contains-map, VarId}
-use Rattle.windows.proofs.Vocabulary.{Value, HasNoRepeats, valuation_of, ⊎_elim, List, [], ◌∷◌, ◌++◌}
-use Rattle.windows.proofs.Vocabulary.{Contains, subst, map, ◌≡◌, ℕ, length, ◌↔◌, All, None, Some, Option}
-use Rattle.windows.proofs.Vocabulary.{ap, sym, All-contains, All-contains_itself, All-weaker, Contains-append_cases}
-use Rattle.windows.proofs.Vocabulary.{Contains-append_left, Contains-append_right, agrees_itself, agrees_once}
-use Rattle.windows.proofs.Vocabulary.{AgreesWithRow, KeptPair, LastStep, HasLast, LastHasColumns, Slot, IsSlot, Stores}
-use Rattle.windows.proofs.Vocabulary.{pairs_of_last, Window, HasLeast, KeepsLeast, HasRow, IsRisingBy, pair}
+use Rattle.windows.proofs.Vocabulary.{here, later, first_or_later, none_in_nil, Contains-from_map, Contains-map, VarId, Value, HasNoRepeats, valuation_of, ⊎_elim, List, [], ◌∷◌, ◌++◌, Contains, subst}
+use Rattle.windows.proofs.Vocabulary.{map, ◌≡◌, ℕ, length, ◌↔◌, All, None, Some, Option, ap, sym, All-contains, All-contains_itself, All-weaker, Contains-append_cases, Contains-append_left}
+use Rattle.windows.proofs.Vocabulary.{Contains-append_right, agrees_itself, agrees_once, AgreesWithRow, KeptPair, LastStep, HasLast, LastHasColumns, Slot, IsSlot, Stores, pairs_of_last, Window}
+use Rattle.windows.proofs.Vocabulary.{HasLeast, KeepsLeast, HasRow, IsRisingBy, pair}
 
 -- ---- lists that rise
 

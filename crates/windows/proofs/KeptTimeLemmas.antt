@@ -1,6 +1,5 @@
 -- What is kept is Kept: it goes on so with each step.
-use Rattle.windows.proofs.Vocabulary.{◌≡◌, ◌⊎◌, inl, inr, ⊎_elim, ℕ, ◌-◌, ◌≤◌, Option, None}
-use Rattle.windows.proofs.Vocabulary.{Some, subst, arith, ChosenBy, IsEndedTime, IsServedTime}
+use Rattle.windows.proofs.Vocabulary.{◌≡◌, ◌⊎◌, inl, inr, ⊎_elim, ℕ, ◌-◌, ◌≤◌, Option, None, Some, subst, arith, ChosenBy, IsEndedTime, IsServedTime}
 
 -- chosen among those that are kept, and so among all that held, each of which is served by one of those or past the end
 module _ (high : Option ℕ) (low last : ℕ) (H P : ℕ → Type 0) where

@@ -1,8 +1,6 @@
 -- The times of a row that are kept are chosen among those that are kept.
-use Rattle.windows.proofs.Vocabulary.{◌≡◌, ◌∙◌, ⊎_elim, ℕ, ◌-◌, ◌<◌, ◌≤◌, List, []}
-use Rattle.windows.proofs.Vocabulary.{◌∷◌, map, Contains, Option, None, Some, sym, ap, subst, arith, All-contains}
-use Rattle.windows.proofs.Vocabulary.{HasNoRepeats, first_or_later, none_in_nil, Contains-map, agrees_once, ChosenBy}
-use Rattle.windows.proofs.Vocabulary.{LeastIsChosen, AreLeastTimes, RiseTo, HasLeast, HasRow}
+use Rattle.windows.proofs.Vocabulary.{◌≡◌, ◌∙◌, ⊎_elim, ℕ, ◌-◌, ◌<◌, ◌≤◌, List, [], ◌∷◌, map, Contains, Option, None, Some, sym, ap, subst, arith, All-contains, HasNoRepeats, first_or_later}
+use Rattle.windows.proofs.Vocabulary.{none_in_nil, Contains-map, agrees_once, ChosenBy, LeastIsChosen, AreLeastTimes, RiseTo, HasLeast, HasRow}
 
 pub of_times : (high : Option ℕ) (low last : ℕ) (times : List ℕ) → RiseTo last times → AreLeastTimes high low last times → (time : ℕ) → Contains times time
     → ChosenBy high low last (Contains times) time

@@ -9,6 +9,7 @@ pub mod HeldLemmas
 pub mod KeptLaws
 pub mod KeptTimeLemmas
 pub mod LeastLemmas
+pub mod ListSteps
 pub mod PairLemmas
 pub mod QueryLemmas
 pub mod QueueLemmas

@@ -1,15 +1,10 @@
 -- Lists that rise, and pairs of rows and times that are put one after another.
-use Rattle.windows.proofs.Vocabulary.{◌≡◌, ◌∙◌, ◌↔◌, inl, inr, ⊎_elim, ℕ, zero, suc, ◌+◌}
-use Rattle.windows.proofs.Vocabulary.{◌<◌, ◌≤◌, List, [], ◌∷◌, ◌++◌, map, length, take, get_or, All}
-use Rattle.windows.proofs.Vocabulary.{Contains, None, refl, sym, ap, subst, arith, append_assoc, Some, Option}
-use Rattle.windows.proofs.Vocabulary.{AllByRecursion, Less, All-contains, All-contains_itself, All-nil, All-cons}
-use Rattle.windows.proofs.Vocabulary.{All-weaker, Contains-append_cases, Contains-append_left, Contains-append_right}
-use Rattle.windows.proofs.Vocabulary.{map-append, take_all, take_more, lookup, SmallVec, row_cmp, Valuation}
-use Rattle.windows.proofs.Vocabulary.{valuation_of, Value, first_or_later, none_in_nil, Contains-map, Contains-from_map}
-use Rattle.windows.proofs.Vocabulary.{contains_from_valuation, Relation, HasValuation, IsTable, AreKeepable, AreOfLast}
-use Rattle.windows.proofs.Vocabulary.{AreRising, AreTimesOf, ArePairsOf, ArePairsKept, Stores, pairs_of_last}
-use Rattle.windows.proofs.Vocabulary.{last_step_time, IsPairBefore, IsRisingBy, pair, RiseTo, Window, HasLeast, HasRow}
-use Rattle.windows.proofs.Vocabulary.{KeepsLeast, kept_entries, KeptPair, LastStep, AreWindowEntries, HasTime}
+use Rattle.windows.proofs.Vocabulary.{◌≡◌, ◌∙◌, ◌↔◌, inl, inr, ⊎_elim, ℕ, zero, suc, ◌+◌, ◌<◌, ◌≤◌, List, [], ◌∷◌, ◌++◌, map, length, take, get_or, All, Contains, None, refl, sym, ap, subst, arith}
+use Rattle.windows.proofs.Vocabulary.{append_assoc, Some, Option, AllByRecursion, Less, All-contains, All-contains_itself, All-nil, All-cons, All-weaker, Contains-append_cases, Contains-append_left}
+use Rattle.windows.proofs.Vocabulary.{Contains-append_right, map-append, take_all, take_more, lookup, row_cmp, Valuation, valuation_of, Value, first_or_later, none_in_nil, Contains-map}
+use Rattle.windows.proofs.Vocabulary.{Contains-from_map, contains_from_valuation, Relation, HasValuation, IsTable, AreKeepable, AreOfLast, AreRising, AreTimesOf, ArePairsOf, ArePairsKept, Stores}
+use Rattle.windows.proofs.Vocabulary.{pairs_of_last, last_step_time, IsPairBefore, IsRisingBy, pair, RiseTo, Window, HasLeast, HasRow, KeepsLeast, kept_entries, KeptPair, LastStep, AreWindowEntries}
+use Rattle.windows.proofs.Vocabulary.{HasTime}
 use Rattle.std.specs.List.Sorted.{IsStrictlySortedBy}
 use Rattle.windows.proofs.KeptLaws.{rises_append, rises_map, stored_long, stored_row}
 use Rattle.windows.proofs.EntryLemmas.{forgets_missing}
@@ -62,18 +57,18 @@ step_fits time n rows fit = All-weaker (Contains (map (λ row. pair row time) ro
     subst (λ q. length q.row ≡ n) from.2 (All-contains (λ row. length row ≡ n) rows from.0 fit from.1)) (map (λ row. pair row time) rows) (All-contains_itself (map (λ row. pair row time) rows))
 
 -- the pairs of some rows, in order
-pub record ArePairsOfRows (entries : List (List Value × SmallVec ℕ)) (rows : List (List Value)) (pairs : List KeptPair) : Type 0 where
+pub record ArePairsOfRows (entries : List (List Value × List ℕ)) (rows : List (List Value)) (pairs : List KeptPair) : Type 0 where
   pub rising : AreRising pairs
   pub exact : (row : List Value) (time : ℕ) → Contains pairs (pair row time) ↔ (Contains rows row × HasTime entries row time)
 
-pub no_rows_yet : (entries : List (List Value × SmallVec ℕ)) → ArePairsOfRows entries [] []
+pub no_rows_yet : (entries : List (List Value × List ℕ)) → ArePairsOfRows entries [] []
 no_rows_yet entries = record {
   rising = tt;
   exact = λ row time. (λ there. absurd (none_in_nil (pair row time) there), λ both. absurd (none_in_nil row both.0));
 }
 
 -- with one more, that is after them
-pub row_more : (entries : List (List Value × SmallVec ℕ)) (done : List (List Value)) (row : List Value) (times : List ℕ) (pairs after : List KeptPair)
+pub row_more : (entries : List (List Value × List ℕ)) (done : List (List Value)) (row : List Value) (times : List ℕ) (pairs after : List KeptPair)
     → ((other : List Value) → Contains done other → row_cmp other row ≡ Less) → AreTimesOf entries row times → after ≡ pairs ++ map (pair row) times
     → ArePairsOfRows entries done pairs → ArePairsOfRows entries (done ++ row ∷ []) after
 row_more entries done row times pairs after behind are grown so_far = record {
@@ -111,14 +106,14 @@ put_all f old out xs i so_far over = so_far ∙ ap (λ l. old ++ map f l) (take_
 
 -- ---- the times of a row
 
-pub times_of_row : (long last : ℕ) (entries : List (List Value × SmallVec ℕ)) (row : List Value) (times : SmallVec ℕ) → AreWindowEntries long last entries → Contains entries (row, times)
-    → AreTimesOf entries row times.items
+pub times_of_row : (long last : ℕ) (entries : List (List Value × List ℕ)) (row : List Value) (times : List ℕ) → AreWindowEntries long last entries → Contains entries (row, times)
+    → AreTimesOf entries row times
 times_of_row long last entries row times kept there = record {
-  rise = times_rise last times.items (All-contains (λ e. (length e.0 ≡ long) × RiseTo last e.1.items × (0 < length e.1.items)) entries (row, times) kept.fit there).1;
-  exact = λ time. (λ has. (times, there, has), λ has. subst (λ t. Contains t.items time) (one_entry entries kept.unique row has.0 times has.1 there) has.2);
+  rise = times_rise last times (All-contains (λ e. (length e.0 ≡ long) × RiseTo last e.1 × (0 < length e.1)) entries (row, times) kept.fit there).1;
+  exact = λ time. (λ has. (times, there, has), λ has. subst (λ t. Contains t time) (one_entry entries kept.unique row has.0 times has.1 there) has.2);
 }
 
-pub no_times : (entries : List (List Value × SmallVec ℕ)) (row : List Value) → lookup (rows.eq-value.it row) entries ≡ None → AreTimesOf entries row []
+pub no_times : (entries : List (List Value × List ℕ)) (row : List Value) → lookup (rows.eq-value.it row) entries ≡ None → AreTimesOf entries row []
 no_times entries row none = record {
   rise = tt;
   exact = λ time. (λ there. absurd (none_in_nil time there), λ has. absurd ((((forgets_missing row entries none).exact row time).0 has).1 refl));
@@ -126,16 +121,12 @@ no_times entries row none = record {
 
 -- ---- the pairs of a window
 
-module _ (window : Window) (least : KeepsLeast window) (es : List (List Value × SmallVec ℕ)) (is : kept_entries es ≡ window.kept) where
+module _ (window : Window) (least : KeepsLeast window) (es : List (List Value × List ℕ)) (is : kept_entries es ≡ window.kept) where
   to_stored : (row : List Value) (time : ℕ) → HasTime es row time → Stores window row time
-  to_stored row time has =
-      (has.0.items, subst (λ l. Contains l (row, has.0.items)) is (Contains-map (λ (e : List Value × SmallVec ℕ). (e.0, e.1.items)) es (row, has.0) has.1), has.2)
+  to_stored row time has = (has.0, subst (λ l. Contains l (row, has.0)) is has.1, has.2)
 
   from_stored : (row : List Value) (time : ℕ) → Stores window row time → HasTime es row time
-  from_stored row time stored =
-      let from = Contains-from_map (λ (e : List Value × SmallVec ℕ). (e.0, e.1.items)) es (row, stored.0) (subst (λ l. Contains l (row, stored.0)) (sym is) stored.1) in
-      let same : from.0.0 ≡ row = ap (λ e. e.0) from.2 in
-      (from.0.1, subst (λ r. Contains es (r, from.0.1)) same from.1, subst (λ l. Contains l time) (sym (ap (λ e. e.1) from.2)) stored.2)
+  from_stored row time stored = (stored.0, subst (λ l. Contains l (row, stored.0)) (sym is) stored.1, stored.2)
 
   pub are_pairs : (t : Relation) (pairs : List KeptPair) → IsTable t → t.columns ≡ window.columns → ((v : Valuation) → HasValuation t v ↔ ((time : ℕ) × HasRow window v time))
       → ArePairsOfRows es t.rows pairs

@@ -1,8 +1,6 @@
 -- Cells, one after another.
-use Rattle.windows.proofs.Vocabulary.{◌≡◌, ◌∙◌, ℕ, suc, ◌+◌, ◌<◌, Bool, true, false, List}
-use Rattle.windows.proofs.Vocabulary.{◌∷◌, length, map, get_or, drop, refl, ap, sym, arith, drop-cons, get_or-map}
-use Rattle.windows.proofs.Vocabulary.{flat_map, fold, fed_then, Valuation, value_at, VarId, Value, cell_eq, cell_fed}
-use Rattle.windows.proofs.Vocabulary.{cells, cells_eq}
+use Rattle.windows.proofs.Vocabulary.{◌≡◌, ◌∙◌, ℕ, suc, ◌+◌, ◌<◌, Bool, true, false, List, ◌∷◌, length, map, get_or, drop, refl, ap, sym, arith, drop-cons, get_or-map, flat_map, fold, fed_then}
+use Rattle.windows.proofs.Vocabulary.{Valuation, value_at, VarId, Value, cell_eq, cell_fed, cells, cells_eq}
 use Rattle.std.specs.Prelude.{Option, Some, ◌&&◌}
 
 -- the item at a place, and what is after it

@@ -1,10 +1,7 @@
 -- Steps in a queue.
-use Rattle.windows.proofs.Vocabulary.{length, ◌≡◌, ◌⊎◌, inl, inr, ⊎_elim, ℕ, zero, suc, ◌-◌}
-use Rattle.windows.proofs.Vocabulary.{◌<◌, ◌≤◌, List, [], ◌∷◌, ◌++◌, drop, get_or, All, Contains}
-use Rattle.windows.proofs.Vocabulary.{refl, sym, ap, subst, arith, length-append, ◌∙◌, All-contains, All-nil}
-use Rattle.windows.proofs.Vocabulary.{All-push, Contains-append_right, SmallVec, Value, all_from, here, later}
-use Rattle.windows.proofs.Vocabulary.{first_or_later, AddAtMost, Queue, AreQueued, AreUpToTime, IsInStep, IsStepQueue}
-use Rattle.windows.proofs.Vocabulary.{LetsGo, StepsNeverFall, waiting_of, LastStep}
+use Rattle.windows.proofs.Vocabulary.{length, ◌≡◌, ◌⊎◌, inl, inr, ⊎_elim, ℕ, zero, suc, ◌-◌, ◌<◌, ◌≤◌, List, [], ◌∷◌, ◌++◌, drop, get_or, All, Contains, refl, sym, ap, subst, arith, length-append}
+use Rattle.windows.proofs.Vocabulary.{◌∙◌, All-contains, All-nil, All-push, Contains-append_right, Value, all_from, here, later, first_or_later, AddAtMost, Queue, AreQueued, AreUpToTime, IsInStep}
+use Rattle.windows.proofs.Vocabulary.{IsStepQueue, LetsGo, StepsNeverFall, waiting_of, LastStep}
 
 -- a step that is not earlier goes last
 push_ordered : (steps : List LastStep) (step : LastStep) → StepsNeverFall steps → AreUpToTime step.time steps → StepsNeverFall (steps ++ step ∷ [])
@@ -93,13 +90,13 @@ waiting_among zero steps step there = there
 waiting_among (suc far) [] step there = there
 waiting_among (suc far) (s ∷ steps) step there = later step s steps (waiting_among far steps step there)
 
-pub queued_fewer : (es after : List (List Value × SmallVec ℕ)) (queue : Queue) → ((e : List Value × SmallVec ℕ) → Contains after e → Contains es e) → AreQueued es queue → AreQueued after queue
+pub queued_fewer : (es after : List (List Value × List ℕ)) (queue : Queue) → ((e : List Value × List ℕ) → Contains after e → Contains es e) → AreQueued es queue → AreQueued after queue
 queued_fewer es after queue among queued = record {
   times = λ row time has. queued.times row time (has.0, among (row, has.0) has.1, has.2);
   waiting = λ row time has. queued.waiting row time (has.0, among (row, has.0) has.1, has.2);
 }
 
-pub queued_added : (now : ℕ) (R : List Value → Type 0) (es after : List (List Value × SmallVec ℕ)) (queue : Queue) → AddAtMost now R es after
+pub queued_added : (now : ℕ) (R : List Value → Type 0) (es after : List (List Value × List ℕ)) (queue : Queue) → AddAtMost now R es after
     → ((row : List Value) → R row → IsInStep (waiting_of queue) row now) → AreQueued es queue → AreQueued after queue
 queued_added now R es after queue adds waits queued = record {
   times = λ row time has. ⊎_elim (queued.times row time) (λ added. let at = waits row added.1 in (at.0, waiting_among queue.far queue.steps at.0 at.1, at.2 ∙ sym added.0, at.3))

@@ -1,15 +1,9 @@
 -- A window that is made of pairs.
-use Rattle.windows.proofs.Vocabulary.{◌≡◌, ◌∙◌, ◌↔◌, ⊎_elim, ℕ, ◌-◌, ◌<◌, ◌≤◌, List}
-use Rattle.windows.proofs.Vocabulary.{[], ◌∷◌, ◌++◌, map, drop, length, All, Contains, Option, None, Some}
-use Rattle.windows.proofs.Vocabulary.{refl, sym, ap, subst, arith, length-append, int_cmp_total, tied_itself}
-use Rattle.windows.proofs.Vocabulary.{nat_list_cmp_total, ordering_then, Less, Equal, cases_lt, All-contains, All-nil}
-use Rattle.windows.proofs.Vocabulary.{All-push, Contains-append_cases, Contains-append_left, Contains-append_right}
-use Rattle.windows.proofs.Vocabulary.{SmallVec, HasNoRepeats, row_cmp, value_cmp, Interval, VarId, Value, Num, Text}
-use Rattle.windows.proofs.Vocabulary.{all_from, here, later, first_or_later, none_in_nil, Contains-from_map}
-use Rattle.windows.proofs.Vocabulary.{Contains-map, ChosenBy, IsPairBefore, IsRisingBy, pair, AreBefore, AreEntriesOf}
-use Rattle.windows.proofs.Vocabulary.{AreKeepable, HaveStepsOf, HaveTimesOf, AreWindowEntries, AreLeast, HasBehind}
-use Rattle.windows.proofs.Vocabulary.{HasTime, Queue, AreInReach, IsInStep, AreLeastTimes, RiseTo, IsWindow}
-use Rattle.windows.proofs.Vocabulary.{kept_entries, KeptPair}
+use Rattle.windows.proofs.Vocabulary.{◌≡◌, ◌∙◌, ◌↔◌, ⊎_elim, ℕ, ◌-◌, ◌<◌, ◌≤◌, List, [], ◌∷◌, ◌++◌, map, drop, length, All, Contains, Option, None, Some, refl, sym, ap, subst, arith, length-append}
+use Rattle.windows.proofs.Vocabulary.{int_cmp_total, tied_itself, nat_list_cmp_total, ordering_then, Less, Equal, cases_lt, All-contains, All-nil, All-push, Contains-append_cases}
+use Rattle.windows.proofs.Vocabulary.{Contains-append_left, Contains-append_right, HasNoRepeats, row_cmp, value_cmp, Interval, VarId, Value, Num, Text, all_from, here, later, first_or_later}
+use Rattle.windows.proofs.Vocabulary.{none_in_nil, Contains-from_map, Contains-map, ChosenBy, IsPairBefore, IsRisingBy, pair, AreBefore, AreEntriesOf, AreKeepable, HaveStepsOf, HaveTimesOf}
+use Rattle.windows.proofs.Vocabulary.{AreWindowEntries, AreLeast, HasBehind, HasTime, Queue, AreInReach, IsInStep, AreLeastTimes, RiseTo, IsWindow, kept_entries, KeptPair}
 use Rattle.windows.proofs.KeptLaws.{rises_append}
 use Rattle.windows.proofs.EntryLemmas.{SetsAt}
 use Rattle.windows.proofs.LeastLemmas.{one_entry}
@@ -39,8 +33,14 @@ no_entries = record {
   unique = tt;
 }
 
+-- which is later than the times that it has
+pub later_times : (done : List KeptPair) (p : KeptPair) (es : List (List Value × List ℕ)) (times : List ℕ) → AreEntriesOf done es → AreBefore done p → Contains es (p.row, times)
+    → All (λ t. t < p.time) times
+later_times done p es times are before there = all_from (λ t. t < p.time) times (λ t at.
+    same_row_later p (pair p.row t) refl (before (pair p.row t) ((are.exact (pair p.row t)).0 (times, there, at))))
+
 -- a time goes last in the entry of its row
-pub entry_set : (done : List KeptPair) (p : KeptPair) (es after : List (List Value × SmallVec ℕ)) (old new : SmallVec ℕ) → SetsAt es after p.row old new → new.items ≡ old.items ++ p.time ∷ []
+pub entry_set : (done : List KeptPair) (p : KeptPair) (es after : List (List Value × List ℕ)) (old new : List ℕ) → SetsAt es after p.row old new → new ≡ old ++ p.time ∷ []
     → HasNoRepeats (map (λ e. e.0) after) → AreEntriesOf done es → AreBefore done p → AreEntriesOf (done ++ p ∷ []) after
 entry_set done p es after old new sets grown unique are before = record {
   exact = λ q. (
@@ -51,7 +51,7 @@ entry_set done p es after old new sets grown unique are before = record {
         ⊎_elim
         (λ earlier. Contains-append_left done (p ∷ []) q ((are.exact q).0 (subst (λ r. HasTime es r q.time) (sym row) (old, sets.was, earlier))))
         (λ last. Contains-append_right done (p ∷ []) q (0, omega arith, (λ i. pair (sym row i) (sym (only q.time last) i))))
-        (Contains-append_cases old.items (p.time ∷ []) q.time (subst (λ l. Contains l q.time) (ap (λ e. e.1.items) same ∙ grown) has.2)))
+        (Contains-append_cases old (p.time ∷ []) q.time (subst (λ l. Contains l q.time) (ap (λ e. e.1) same ∙ grown) has.2)))
         (sets.from (q.row, has.0) has.1),
     λ there. ⊎_elim
         (λ earlier. let has = (are.exact q).1 earlier in ⊎_elim (λ stays. (has.0, stays, has.2)) (λ same.
@@ -60,18 +60,18 @@ entry_set done p es after old new sets grown unique are before = record {
           new,
           sets.is,
           subst (λ l. Contains l q.time) (sym grown)
-              (Contains-append_left old.items (p.time ∷ []) q.time (subst (λ l. Contains l q.time) (ap (λ e. e.1.items) same) has.2)),
+              (Contains-append_left old (p.time ∷ []) q.time (subst (λ l. Contains l q.time) (ap (λ e. e.1) same) has.2)),
         ))
         (sets.rest (q.row, has.0) has.1))
         (λ last. subst (λ r. HasTime after r.row r.time) (only_pair q last)
-        (new, sets.is, subst (λ l. Contains l p.time) (sym grown) (Contains-append_right old.items (p.time ∷ []) p.time (here p.time []))))
+        (new, sets.is, subst (λ l. Contains l p.time) (sym grown) (Contains-append_right old (p.time ∷ []) p.time (here p.time []))))
         (Contains-append_cases done (p ∷ []) q there),
   );
-  fit = all_from (λ e. (0 < length e.1.items) × IsRisingBy ◌<◌ e.1.items) after (λ e there. ⊎_elim
-      (λ was. All-contains (λ f. (0 < length f.1.items) × IsRisingBy ◌<◌ f.1.items) es e are.fit was)
-      (λ same. subst (λ f. (0 < length f.1.items) × IsRisingBy ◌<◌ f.1.items) (sym same) (subst (λ l. (0 < length l) × IsRisingBy ◌<◌ l) (sym grown) (
-        omega (arith, length-append old.items (p.time ∷ [])),
-        rises_append ◌<◌ old.items (p.time ∷ []) (All-contains (λ f. (0 < length f.1.items) × IsRisingBy ◌<◌ f.1.items) es (p.row, old) are.fit sets.was).1 (All-nil _, tt)
+  fit = all_from (λ e. (0 < length e.1) × IsRisingBy ◌<◌ e.1) after (λ e there. ⊎_elim
+      (λ was. All-contains (λ f. (0 < length f.1) × IsRisingBy ◌<◌ f.1) es e are.fit was)
+      (λ same. subst (λ f. (0 < length f.1) × IsRisingBy ◌<◌ f.1) (sym same) (subst (λ l. (0 < length l) × IsRisingBy ◌<◌ l) (sym grown) (
+        omega (arith, length-append old (p.time ∷ [])),
+        rises_append ◌<◌ old (p.time ∷ []) (All-contains (λ f. (0 < length f.1) × IsRisingBy ◌<◌ f.1) es (p.row, old) are.fit sets.was).1 (All-nil _, tt)
             (λ x y first second. subst (λ t. x < t) (sym (only y second)) (same_row_later p (pair p.row x) refl (before (pair p.row x) ((are.exact (pair p.row x)).0 (old, sets.was, first))))),
       )))
       (sets.from e there));
@@ -85,15 +85,15 @@ entry_set done p es after old new sets grown unique are before = record {
     only_pair q there = ⊎_elim (λ same. same) (λ none. absurd (none_in_nil q none)) (first_or_later q p [] there)
 
 -- a row that is new goes last, with one time
-pub entry_first : (done : List KeptPair) (p : KeptPair) (es after : List (List Value × SmallVec ℕ)) (new : SmallVec ℕ) → ((time : ℕ) → HasTime es p.row time → ⊥) → after ≡ es ++ (p.row, new) ∷ []
-    → new.items ≡ p.time ∷ [] → HasNoRepeats (map (λ e. e.0) after) → AreEntriesOf done es → AreEntriesOf (done ++ p ∷ []) after
+pub entry_first : (done : List KeptPair) (p : KeptPair) (es after : List (List Value × List ℕ)) (new : List ℕ) → ((time : ℕ) → HasTime es p.row time → ⊥) → after ≡ es ++ (p.row, new) ∷ []
+    → new ≡ p.time ∷ [] → HasNoRepeats (map (λ e. e.0) after) → AreEntriesOf done es → AreEntriesOf (done ++ p ∷ []) after
 entry_first done p es after new absent grown one unique are = record {
   exact = λ q. (
     λ has. ⊎_elim
         (λ was. Contains-append_left done (p ∷ []) q ((are.exact q).0 (has.0, was, has.2)))
         (λ last.
         let same : (p.row, new) ≡ (q.row, has.0) = ⊎_elim (λ h. h) (λ none. absurd (none_in_nil (q.row, has.0) none)) (first_or_later (q.row, has.0) (p.row, new) [] last) in
-        let at : Contains (p.time ∷ []) q.time = subst (λ l. Contains l q.time) (ap (λ e. e.1.items) (sym same) ∙ one) has.2 in
+        let at : Contains (p.time ∷ []) q.time = subst (λ l. Contains l q.time) (ap (λ e. e.1) (sym same) ∙ one) has.2 in
         let time : p.time ≡ q.time = ⊎_elim (λ h. h) (λ none. absurd (none_in_nil q.time none)) (first_or_later q.time p.time [] at) in
         Contains-append_right done (p ∷ []) q (0, omega arith, (λ i. pair ((same i).0) (time i))))
         (Contains-append_cases es ((p.row, new) ∷ []) (q.row, has.0) (subst (λ l. Contains l (q.row, has.0)) grown has.1)),
@@ -109,7 +109,7 @@ entry_first done p es after new absent grown one unique are = record {
         ))
         (Contains-append_cases done (p ∷ []) q there),
   );
-  fit = subst (All (λ e. (0 < length e.1.items) × IsRisingBy ◌<◌ e.1.items)) (sym grown) (All-push (λ e. (0 < length e.1.items) × IsRisingBy ◌<◌ e.1.items) es (p.row, new) are.fit
+  fit = subst (All (λ e. (0 < length e.1) × IsRisingBy ◌<◌ e.1)) (sym grown) (All-push (λ e. (0 < length e.1) × IsRisingBy ◌<◌ e.1) es (p.row, new) are.fit
       (subst (λ l. (0 < length l) × IsRisingBy ◌<◌ l) (sym one) (omega arith, (All-nil _, tt))));
   unique = unique;
 }
@@ -137,21 +137,21 @@ least_of_chosen (Some high) low last (first ∷ times) some rises chosen = (
         let below : first < t = All-contains (λ u. first < u) times t rises.0 there in
         absurd (omega (arith, below, (chosen first (here first times)).1 (omega (arith, below, far)) t (later t first times there) far))) (cases_lt (last - t) low)
 
-module _ (interval : Interval) (columns : List VarId) (last : ℕ) (pairs : List KeptPair) (es : List (List Value × SmallVec ℕ)) (keepable : AreKeepable interval columns last pairs)
+module _ (interval : Interval) (columns : List VarId) (last : ℕ) (pairs : List KeptPair) (es : List (List Value × List ℕ)) (keepable : AreKeepable interval columns last pairs)
     (are : AreEntriesOf pairs es) where
-  times_of : (row : List Value) (times : SmallVec ℕ) → Contains es (row, times) → (time : ℕ) → Contains times.items time ↔ Contains pairs (pair row time)
+  times_of : (row : List Value) (times : List ℕ) → Contains es (row, times) → (time : ℕ) → Contains times time ↔ Contains pairs (pair row time)
   times_of row times there time = (
     λ has. (are.exact (pair row time)).0 (times, there, has),
-    λ is. let has = (are.exact (pair row time)).1 is in subst (λ t. Contains t.items time) (one_entry es are.unique row has.0 times has.1 there) has.2,
+    λ is. let has = (are.exact (pair row time)).1 is in subst (λ t. Contains t time) (one_entry es are.unique row has.0 times has.1 there) has.2,
   )
 
   pub restored_kept : AreWindowEntries (length columns) last es
   restored_kept = record {
-    fit = all_from (λ e. (length e.0 ≡ length columns) × RiseTo last e.1.items × (0 < length e.1.items)) es (λ e there.
-        let fit = All-contains (λ f. (0 < length f.1.items) × IsRisingBy ◌<◌ f.1.items) es e are.fit there in
-        let first = some_time e.1.items fit.0 in (
+    fit = all_from (λ e. (length e.0 ≡ length columns) × RiseTo last e.1 × (0 < length e.1)) es (λ e there.
+        let fit = All-contains (λ f. (0 < length f.1) × IsRisingBy ◌<◌ f.1) es e are.fit there in
+        let first = some_time e.1 fit.0 in (
           All-contains (λ p. length p.row ≡ length columns) pairs (pair e.0 first.0) keepable.fit ((times_of e.0 e.1 there first.0).0 first.1),
-          rise_to last e.1.items (λ t has. All-contains (λ p. p.time ≤ last) pairs (pair e.0 t) keepable.up_to ((times_of e.0 e.1 there t).0 has)) fit.1,
+          rise_to last e.1 (λ t has. All-contains (λ p. p.time ≤ last) pairs (pair e.0 t) keepable.up_to ((times_of e.0 e.1 there t).0 has)) fit.1,
           fit.0,
         ));
     unique = are.unique;
@@ -162,13 +162,13 @@ module _ (interval : Interval) (columns : List VarId) (last : ℕ) (pairs : List
       some_time (t ∷ times) some = (t, here t times)
 
   pub restored_least : AreLeast interval last es
-  restored_least = all_from (λ e. AreLeastTimes interval.high interval.low last e.1.items) es (λ e there.
-      let fit = All-contains (λ f. (0 < length f.1.items) × IsRisingBy ◌<◌ f.1.items) es e are.fit there in
-      least_of_chosen interval.high interval.low last e.1.items fit.0 fit.1 (λ t has.
+  restored_least = all_from (λ e. AreLeastTimes interval.high interval.low last e.1) es (λ e there.
+      let fit = All-contains (λ f. (0 < length f.1) × IsRisingBy ◌<◌ f.1) es e are.fit there in
+      least_of_chosen interval.high interval.low last e.1 fit.0 fit.1 (λ t has.
       among interval.high e.0 e.1 there t (keepable.chosen e.0 t ((times_of e.0 e.1 there t).0 has))))
     where
-      among : (high : Option ℕ) (row : List Value) (times : SmallVec ℕ) → Contains es (row, times) → (t : ℕ)
-          → ChosenBy high interval.low last (λ other. Contains pairs (pair row other)) t → ChosenBy high interval.low last (Contains times.items) t
+      among : (high : Option ℕ) (row : List Value) (times : List ℕ) → Contains es (row, times) → (t : ℕ)
+          → ChosenBy high interval.low last (λ other. Contains pairs (pair row other)) t → ChosenBy high interval.low last (Contains times) t
       among None row times there t chosen = λ other has. chosen other ((times_of row times there other).0 has)
       among (Some high) row times there t chosen = (chosen.0, λ far other has. chosen.1 far other ((times_of row times there other).0 has))
 
@@ -201,17 +201,13 @@ module _ (interval : Interval) (columns : List VarId) (last : ℕ) (pairs : List
         of_drop (x ∷ times) t there = later t x times there
 
         behind : (row : List Value) (time : ℕ) → HasBehind es row time → HasTime es row time
-        behind row time has = (has.0, has.1, of_drop has.0.items time has.2)
+        behind row time has = (has.0, has.1, of_drop has.0 time has.2)
 
   pub restored_pairs : (kept : List (List Value × List ℕ)) → kept ≡ kept_entries es → (row : List Value) (time : ℕ)
       → Contains pairs (pair row time) ↔ ((times : List ℕ) × Contains kept (row, times) × Contains times time)
   restored_pairs kept is row time = (
-    λ there. let has = (are.exact (pair row time)).1 there in
-        (has.0.items, subst (λ l. Contains l (row, has.0.items)) (sym is) (Contains-map (λ (e : List Value × SmallVec ℕ). (e.0, e.1.items)) es (row, has.0) has.1), has.2),
-    λ stored.
-        let from = Contains-from_map (λ (e : List Value × SmallVec ℕ). (e.0, e.1.items)) es (row, stored.0) (subst (λ l. Contains l (row, stored.0)) is stored.1) in
-        let same : from.0.0 ≡ row = ap (λ e. e.0) from.2 in
-        (are.exact (pair row time)).0 (from.0.1, subst (λ r. Contains es (r, from.0.1)) same from.1, subst (λ l. Contains l time) (sym (ap (λ e. e.1) from.2)) stored.2),
+    λ there. let has = (are.exact (pair row time)).1 there in (has.0, subst (λ l. Contains l (row, has.0)) (sym is) has.1, has.2),
+    λ stored. (are.exact (pair row time)).0 (stored.0, subst (λ l. Contains l (row, stored.0)) is stored.1, stored.2),
   )
 
 -- ---- the rows of pairs

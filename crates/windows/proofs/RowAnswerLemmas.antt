@@ -1,14 +1,9 @@
 -- What one look-up finds.
-use Rattle.windows.proofs.Vocabulary.{◌≡◌, ◌∙◌, ◌↔◌, ◌⊎◌, inl, inr, ⊎_elim, ℕ, ◌-◌}
-use Rattle.windows.proofs.Vocabulary.{Bool, true, false, IsTrue, List, [], ◌∷◌, length, map, drop, get_or}
-use Rattle.windows.proofs.Vocabulary.{Contains, Option, None, Some, refl, sym, ap, subst, arith, false≢true}
-use Rattle.windows.proofs.Vocabulary.{length-map, same_Some, none-some, cond, lookup, SmallVec, HasNoRepeats, IsIn}
-use Rattle.windows.proofs.Vocabulary.{Valuation, value_at, Interval, VarId, Value, here, later, first_or_later}
-use Rattle.windows.proofs.Vocabulary.{none_in_nil, Contains-map, agrees_once, cell_here, cell_later, cell_some}
-use Rattle.windows.proofs.Vocabulary.{Relation, AgreesWithRow, AgreeOnColumns, AgreesWhereBound, HasValuation}
-use Rattle.windows.proofs.Vocabulary.{IsBoundSame, row_cell, AreWindowEntries, IsSomeIn, cells, cells_eq}
-use Rattle.windows.proofs.Vocabulary.{cells_eq-Decides, Slot, GivesLast, LastHasColumns, Window, AnswersBy, FitsColumns}
-use Rattle.windows.proofs.Vocabulary.{WindowRemembers, SurvivesFor, kept_entries, LastStep, Surviving}
+use Rattle.windows.proofs.Vocabulary.{◌≡◌, ◌∙◌, ◌↔◌, ◌⊎◌, inl, inr, ⊎_elim, ℕ, ◌-◌, Bool, true, false, IsTrue, List, [], ◌∷◌, length, map, drop, get_or, Contains, Option, None, Some, refl, sym, ap}
+use Rattle.windows.proofs.Vocabulary.{subst, arith, false≢true, length-map, same_Some, none-some, cond, lookup, HasNoRepeats, IsIn, Valuation, value_at, Interval, VarId, Value, here, later}
+use Rattle.windows.proofs.Vocabulary.{first_or_later, none_in_nil, agrees_once, cell_here, cell_later, cell_some, Relation, AgreesWithRow, AgreeOnColumns, AgreesWhereBound, HasValuation, IsBoundSame}
+use Rattle.windows.proofs.Vocabulary.{row_cell, AreWindowEntries, IsSomeIn, cells, cells_eq, cells_eq-Decides, Slot, GivesLast, LastHasColumns, Window, AnswersBy, FitsColumns, WindowRemembers}
+use Rattle.windows.proofs.Vocabulary.{SurvivesFor, kept_entries, LastStep, Surviving}
 use Rattle.windows.proofs.EntryLemmas.{fit_of}
 use Rattle.windows.proofs.LeastLemmas.{one_entry}
 use Rattle.windows.proofs.WindowLemmas.{from_view}
@@ -37,10 +32,10 @@ cells_agree (c ∷ columns) v (a ∷ row) distinct same x there =
 -- ---- the first entry whose row passes
 
 module _ (test : List Value → Bool) where
-  abbrev pub Found : List (List Value × SmallVec ℕ) → SmallVec ℕ → Type 0
+  abbrev pub Found : List (List Value × List ℕ) → List ℕ → Type 0
   Found es times = (row : List Value) × Contains es (row, times) × (test row ≡ true)
 
-  found_first : (e : List Value × SmallVec ℕ) (es : List (List Value × SmallVec ℕ)) (times : SmallVec ℕ) (b : Bool) → test e.0 ≡ b
+  found_first : (e : List Value × List ℕ) (es : List (List Value × List ℕ)) (times : List ℕ) (b : Bool) → test e.0 ≡ b
       → (Some times ≡ lookup test es → Found es times) → Some times ≡ cond b (Some e.1) (lookup test es) → Found (e ∷ es) times
   found_first e es times true passes behind is =
       let same : e.1 ≡ times = sym (same_Some times e.1 is) in
@@ -48,24 +43,24 @@ module _ (test : List Value → Bool) where
       (e.0, (0, omega arith, first), passes)
   found_first e es times false fails behind is = let got = behind is in (got.0, later (got.0, times) e es got.1, got.2)
 
-  pub looked : (es : List (List Value × SmallVec ℕ)) (times : SmallVec ℕ) → Some times ≡ lookup test es → Found es times
+  pub looked : (es : List (List Value × List ℕ)) (times : List ℕ) → Some times ≡ lookup test es → Found es times
   looked [] times is = absurd (none-some times (sym is))
   looked (e ∷ es) times is = found_first e es times (test e.0) refl (looked es times) is
 
-  not_first : (e : List Value × SmallVec ℕ) (es : List (List Value × SmallVec ℕ)) (row : List Value) (times : SmallVec ℕ) (b : Bool) → test e.0 ≡ b
+  not_first : (e : List Value × List ℕ) (es : List (List Value × List ℕ)) (row : List Value) (times : List ℕ) (b : Bool) → test e.0 ≡ b
       → (None ≡ lookup test es → Contains es (row, times) → ⊥)
       → None ≡ cond b (Some e.1) (lookup test es) → Contains (e ∷ es) (row, times) → test row ≡ true → ⊥
   not_first e es row times true passes behind is there also = none-some e.1 is
   not_first e es row times false fails behind is there also =
       ⊎_elim (λ same. false≢true (sym fails ∙ ap (λ d. test d.0) same ∙ also)) (λ later_on. behind is later_on) (first_or_later (row, times) e es there)
 
-  pub unlooked : (es : List (List Value × SmallVec ℕ)) → None ≡ lookup test es → (row : List Value) (times : SmallVec ℕ) → Contains es (row, times) → test row ≡ true → ⊥
+  pub unlooked : (es : List (List Value × List ℕ)) → None ≡ lookup test es → (row : List Value) (times : List ℕ) → Contains es (row, times) → test row ≡ true → ⊥
   unlooked [] is row times there passes = none_in_nil (row, times) there
   unlooked (e ∷ es) is row times there passes = not_first e es row times (test e.0) refl (λ none in_rest. unlooked es none row times in_rest passes) is there passes
 
 -- ---- what it says of a window
 
-module _ (interval : Interval) (columns : List VarId) (last : ℕ) (es : List (List Value × SmallVec ℕ)) (distinct : HasNoRepeats columns)
+module _ (interval : Interval) (columns : List VarId) (last : ℕ) (es : List (List Value × List ℕ)) (distinct : HasNoRepeats columns)
     (kept : AreWindowEntries (length columns) last es) (time : ℕ) (v : Valuation) where
   abbrev window : Window
   window = record { interval = interval; columns = columns; last = last; kept = kept_entries es }
@@ -73,18 +68,18 @@ module _ (interval : Interval) (columns : List VarId) (last : ℕ) (es : List (L
   abbrev passes : List Value → Bool
   passes row = cells_eq (cells columns v) (map Some row)
 
-  found_in : (times : SmallVec ℕ) (b : Bool) → Some times ≡ lookup passes es → IsTrue b ↔ IsSomeIn interval time times.items → IsTrue b ↔ WindowRemembers window time v
+  found_in : (times : List ℕ) (b : Bool) → Some times ≡ lookup passes es → IsTrue b ↔ IsSomeIn interval time times → IsTrue b ↔ WindowRemembers window time v
   found_in times b is tells =
       let found = looked passes es times is in
       let agrees : AgreesWithRow v columns found.0 = cells_agree columns v found.0 distinct ((cells_eq-Decides (cells columns v) (map Some found.0)).0 found.2) in (
         λ yes. let some = tells.0 yes in
-            (some.0, some.2, (found.0, times.items, Contains-map (λ (e : List Value × SmallVec ℕ). (e.0, e.1.items)) es (found.0, times) found.1, some.1, agrees)),
+            (some.0, some.2, (found.0, times, found.1, some.1, agrees)),
         λ remembered. let has = remembered.2 in
             let entry = from_view es has.0 has.1 has.2 in
             let row : has.0 ≡ found.0 = agrees_once v columns has.0 found.0 distinct (fit_of (length columns) last es has.0 entry.0 kept entry.1).0
             (fit_of (length columns) last es found.0 times kept found.1).0 has.4 agrees in
             let same : entry.0 ≡ times = one_entry es kept.unique found.0 entry.0 times (subst (λ r. Contains es (r, entry.0)) row entry.1) found.1 in
-            tells.1 (remembered.0, subst (λ l. Contains l remembered.0) (sym entry.2 ∙ ap (λ s. s.items) same) has.3, remembered.1),
+            tells.1 (remembered.0, subst (λ l. Contains l remembered.0) (sym entry.2 ∙ ap (λ s. s) same) has.3, remembered.1),
       )
 
   nothing_in : None ≡ lookup passes es → WindowRemembers window time v → ⊥
@@ -94,7 +89,7 @@ module _ (interval : Interval) (columns : List VarId) (last : ℕ) (es : List (L
       unlooked passes es is has.0 entry.0 entry.1
       ((cells_eq-Decides (cells columns v) (map Some has.0)).1 (agree_cells columns v has.0 distinct (fit_of (length columns) last es has.0 entry.0 kept entry.1).0 has.4))
 
-  pub found : (w : Window) (times : SmallVec ℕ) (b : Bool) → window ≡ w → Some times ≡ lookup passes es → IsTrue b ↔ IsSomeIn interval time times.items → IsTrue b ↔ WindowRemembers w time v
+  pub found : (w : Window) (times : List ℕ) (b : Bool) → window ≡ w → Some times ≡ lookup passes es → IsTrue b ↔ IsSomeIn interval time times → IsTrue b ↔ WindowRemembers w time v
   found w times b is looked_up tells = subst (λ u. IsTrue b ↔ WindowRemembers u time v) is (found_in times b looked_up tells)
 
   pub nothing : (w : Window) → window ≡ w → None ≡ lookup passes es → IsTrue false ↔ WindowRemembers w time v

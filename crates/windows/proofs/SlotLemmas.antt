@@ -1,6 +1,5 @@
 -- What the last step gives.
-use Rattle.windows.proofs.Vocabulary.{◌≡◌, ◌↔◌, ℕ, ◌-◌, Option, None, Some, sym, subst, IsIn}
-use Rattle.windows.proofs.Vocabulary.{Valuation, Interval, Relation, HasValuation, GivesLast, LastStep}
+use Rattle.windows.proofs.Vocabulary.{◌≡◌, ◌↔◌, ℕ, ◌-◌, Option, None, Some, sym, subst, IsIn, Valuation, Interval, Relation, HasValuation, GivesLast, LastStep}
 
 pub given : (interval : Interval) (time : ℕ) (kept : Option LastStep) (last : LastStep) (t : Relation) → kept ≡ Some last
     → IsIn interval (time - last.time) → t ≡ last.rows → (v : Valuation) → HasValuation t v ↔ GivesLast interval time kept v

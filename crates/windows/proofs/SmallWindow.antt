@@ -1,10 +1,7 @@
 -- A window with one row stands for the one step that brought it.
-use Rattle.windows.proofs.Vocabulary.{◌≡◌, ◌∙◌, ◌⊎◌, ⊎_elim, inl, inr, ℕ, [], ◌∷◌, Contains}
-use Rattle.windows.proofs.Vocabulary.{Some, length, refl, sym, ap, subst, arith, All-nil, Valuation, all_from, here}
-use Rattle.windows.proofs.Vocabulary.{first_or_later, none_in_nil, AgreesWithRow, HasValuation, to_the_end, x_columns}
-use Rattle.windows.proofs.Vocabulary.{number_row, number_table, right_at_3, with_1, case_within, IsEndedTime}
-use Rattle.windows.proofs.Vocabulary.{AreLeastTimes, IsServedTime, RiseTo, Window, HasRowAfterStep, HasLeast, HasRow}
-use Rattle.windows.proofs.Vocabulary.{IsCommittedBy, KeepsLeast, StandsForSteps}
+use Rattle.windows.proofs.Vocabulary.{◌≡◌, ◌∙◌, ◌⊎◌, ⊎_elim, inl, inr, ℕ, [], ◌∷◌, Contains, Some, length, refl, sym, ap, subst, arith, All-nil, Valuation, all_from, here, first_or_later, none_in_nil}
+use Rattle.windows.proofs.Vocabulary.{AgreesWithRow, HasValuation, to_the_end, x_columns, number_row, number_table, right_at_3, with_1, case_within, IsEndedTime, AreLeastTimes, IsServedTime, RiseTo}
+use Rattle.windows.proofs.Vocabulary.{Window, HasRowAfterStep, HasLeast, HasRow, IsCommittedBy, KeepsLeast, StandsForSteps}
 use Rattle.windows.proofs.CaseLemmas.{distinct, from_rows, only_row}
 use Rattle.windows.proofs.TimeLemmas.{itself}
 use Rattle.windows.proofs.WindowLemmas.{not_ended, nothing_kept, remembers_from, served_in, served_to_end, stands_with}

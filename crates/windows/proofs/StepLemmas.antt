@@ -1,13 +1,8 @@
 -- The steps of pairs, a step for each time.
-use Rattle.windows.proofs.Vocabulary.{◌≡◌, ◌∙◌, ◌⊎◌, inl, inr, ⊎_elim, ℕ, List, [], ◌∷◌}
-use Rattle.windows.proofs.Vocabulary.{◌++◌, length, filter, is_some, nat_eq, All, Contains, Option, None, Some, Vec}
-use Rattle.windows.proofs.Vocabulary.{Global, refl, sym, ap, subst, IsDistinct, list_any, nat_eq_equiv}
-use Rattle.windows.proofs.Vocabulary.{unsigned_Decides, keys_of, lookup, option_map_or, All-contains}
-use Rattle.windows.proofs.Vocabulary.{Contains-append_cases, Contains-append_left, Contains-append_right}
-use Rattle.windows.proofs.Vocabulary.{Any-from_list_any, Contains-from_lookup, lookup-from_Contains, Value, all_from}
-use Rattle.windows.proofs.Vocabulary.{Contains-filter, Contains-from_filter, first_or_later, here, later, none_in_nil}
-use Rattle.windows.proofs.Vocabulary.{Contains-from_map, Contains-map, HaveStepsOf, HaveTimesOf, rows_at, IsInStep}
-use Rattle.windows.proofs.Vocabulary.{KeptPair, LastStep}
+use Rattle.windows.proofs.Vocabulary.{◌≡◌, ◌∙◌, ◌⊎◌, inl, inr, ⊎_elim, ℕ, List, [], ◌∷◌, ◌++◌, length, filter, is_some, nat_eq, All, Contains, Option, None, Some, Vec, Global, refl, sym, ap, subst}
+use Rattle.windows.proofs.Vocabulary.{IsDistinct, list_any, nat_eq_equiv, unsigned_Decides, keys_of, lookup, option_map_or, All-contains, Contains-append_cases, Contains-append_left}
+use Rattle.windows.proofs.Vocabulary.{Contains-append_right, Any-from_list_any, Contains-from_lookup, lookup-from_Contains, Value, all_from, Contains-filter, Contains-from_filter, first_or_later}
+use Rattle.windows.proofs.Vocabulary.{here, later, none_in_nil, Contains-from_map, Contains-map, HaveStepsOf, HaveTimesOf, rows_at, IsInStep, KeptPair, LastStep}
 
 -- steps are there for the times of pairs, but for those that are left with their rows
 pub record HaveSteps (n : ℕ) (pairs : List KeptPair) (left : List (ℕ × Vec (List Value) Global)) (steps : List LastStep) : Type 0 where

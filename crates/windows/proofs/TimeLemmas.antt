@@ -1,12 +1,15 @@
 -- The times of one row.
-use Rattle.windows.proofs.Vocabulary.{◌≡◌, ◌∙◌, ◌⊎◌, inl, inr, ⊎_elim, ℕ, zero, suc, ◌+◌}
-use Rattle.windows.proofs.Vocabulary.{◌-◌, ◌<◌, ◌≤◌, List, [], ◌∷◌, ◌++◌, length, take, drop}
-use Rattle.windows.proofs.Vocabulary.{get_or, Contains, Option, None, Some, refl, sym, ap, subst, arith, All-contains}
-use Rattle.windows.proofs.Vocabulary.{All-nil, All-push, Contains-append_cases, Contains-append_left, Contains-push}
-use Rattle.windows.proofs.Vocabulary.{slice_get, same_Some, none-some, Interval, here, later, first_or_later}
-use Rattle.windows.proofs.Vocabulary.{none_in_nil, there_from_get, IsIn, all_from, drop_more, take_all, take_more}
-use Rattle.windows.proofs.Vocabulary.{AddsAtMost, AddsTime, ForgetsTimes, IsSomeIn, IsEndedTime, AreLeastTimes}
-use Rattle.windows.proofs.Vocabulary.{IsServedTime, RiseTo}
+use Rattle.windows.proofs.Vocabulary.{◌≡◌, ◌∙◌, ◌↔◌, ◌⊎◌, inl, inr, ⊎_elim, ℕ, zero, suc, ◌-◌, ◌<◌, ◌≤◌, List, [], ◌∷◌, ◌++◌, length, drop, leb, All, get_or, Contains, Option, None, Some, refl, sym}
+use Rattle.windows.proofs.Vocabulary.{ap, subst, arith, All-contains, All-nil, All-push, Contains-append_cases, Contains-append_left, Contains-push, Contains-get_or, cases_le, cases_lt, leb_tells}
+use Rattle.windows.proofs.Vocabulary.{IsRisingBy, IsUpTo, slice_get, same_Some, none-some, Interval, here, later, first_or_later, none_in_nil, there_from_get, IsIn, all_from, AddsAtMost, AddsTime}
+use Rattle.windows.proofs.Vocabulary.{ForgetsTimes, IsSomeIn, IsEndedTime, AreLeastTimes, IsServedTime, RiseTo}
+use Rattle.windows.proofs.KeptLaws.{rises_append}
+use Rattle.windows.specs.machine.RowTimes.{IsFirstPassed}
+use Rattle.windows.specs.machine.WindowEntries.{SettlesTimes}
+use Rattle.std.specs.Prelude.{Result, Ok, Err, OnOk, OnErr}
+use Rattle.std.specs.List.Sorted.{IsPartitionedBy}
+use Rattle.std.proofs.lemmas.Bool.{leb-true}
+use Rattle.std.proofs.lemmas.Option.{slice_get-get_or}
 
 equal_or_below : (a b : ℕ) → a ≤ b → (a ≡ b) ⊎ (a < b)
 equal_or_below zero zero below = inl refl
@@ -75,41 +78,90 @@ forgets_first high low now before a b times rises passed forgets = record {
       (λ ended. inr ended) (forgets.serves time there);
 }
 
+pub forgets_none : (high low now : ℕ) (times : List ℕ) → ForgetsTimes high low now times times
+forgets_none high low now times = record {
+  from = λ time there. there;
+  behind = λ time there. there;
+  serves = λ time there. inl (time, omega arith, inl refl, there);
+}
+
 -- how far the front is passed
-pub record Passes (high low now : ℕ) (times left : List ℕ) : Type 0 where
+pub record Passes (high low now : ℕ) (before left : List ℕ) : Type 0 where
   pub rise : RiseTo now left
-  pub forgets : ForgetsTimes high low now times left
+  pub forgets : ForgetsTimes high low now before left
+  pub some : 0 < length left
 
-two_at : (times : List ℕ) (i d e : ℕ) → i + 1 < length times → drop i times ≡ get_or times i d ∷ get_or times (i + 1) e ∷ drop (i + 1 + 1) times
-two_at times i d e below = drop_more times i d (omega (arith, below)) ∙ ap (λ l. get_or times i d ∷ l) (drop_more times (i + 1) e below)
+pub passes_none : (high low now : ℕ) (times : List ℕ) → RiseTo now times → (time : ℕ) × Contains times time × (now - time ≤ high) → Passes high low now times times
+passes_none high low now [] rise live = absurd (none_in_nil live.0 live.1)
+passes_none high low now (t ∷ times) rise live = record { rise = rise; forgets = forgets_none high low now (t ∷ times); some = omega arith }
 
-pub passes_more : (high low now : ℕ) (times : List ℕ) (i d e : ℕ) → i + 1 < length times → (high < now - get_or times i d) ⊎ (low ≤ now - get_or times (i + 1) e)
-    → Passes high low now times (drop i times) → Passes high low now times (drop (i + 1) times)
-passes_more high low now times i d e below passed passes =
-    let two = two_at times i d e below in
-    let next = drop_more times (i + 1) e below in
-    let rise = subst (RiseTo now) two passes.rise in record {
-      rise = subst (RiseTo now) (sym next) rise.2;
-      forgets = subst (ForgetsTimes high low now times) (sym next)
-          (forgets_first high low now times (get_or times i d) (get_or times (i + 1) e) (drop (i + 1 + 1) times)
-          (All-contains (λ l. get_or times i d < l) (get_or times (i + 1) e ∷ drop (i + 1 + 1) times) (get_or times (i + 1) e) rise.1 (here _ _)) passed
-          (subst (ForgetsTimes high low now times) two passes.forgets));
-    }
+pub passes_more : (high low now : ℕ) (before left : List ℕ) → IsFirstPassed high low now left → Passes high low now before left → Passes high low now before (drop 1 left)
+passes_more high low now before [] passed passes = absurd passed
+passes_more high low now before (a ∷ []) passed passes = absurd passed
+passes_more high low now before (a ∷ b ∷ times) passed passes = record {
+  rise = passes.rise.2;
+  forgets = forgets_first high low now before a b times (All-contains (λ l. a < l) (b ∷ times) b passes.rise.1 (here b times)) passed passes.forgets;
+  some = omega arith;
+}
 
 -- the first is not past the end, and the second not far enough
-pub passes_enough : (high low now : ℕ) (times : List ℕ) (i d e : ℕ) → i + 1 < length times → now - get_or times i d ≤ high → now - get_or times (i + 1) e < low
-    → Passes high low now times (drop i times)
-    → AreLeastTimes (Some high) low now (drop i times)
-passes_enough high low now times i d e below live near passes =
-    let two = two_at times i d e below in
-    let rise = subst (RiseTo now) two passes.rise in
-    subst (AreLeastTimes (Some high) low now) (sym two) (
-      live,
-      all_from (λ l. now - l < low) (get_or times (i + 1) e ∷ drop (i + 1 + 1) times) (λ time there.
-          ⊎_elim (λ same. omega (arith, same, near)) (λ behind.
-          let above : get_or times (i + 1) e < time = All-contains (λ l. get_or times (i + 1) e < l) (drop (i + 1 + 1) times) time rise.2.1 behind in omega (arith, above, near))
-          (first_or_later time (get_or times (i + 1) e) (drop (i + 1 + 1) times) there)),
-    )
+pub passes_enough : (high low now : ℕ) (before left : List ℕ) → (time : ℕ) × Contains before time × (now - time ≤ high) → (IsFirstPassed high low now left → ⊥)
+    → Passes high low now before left → SettlesTimes high low now before left
+passes_enough high low now before [] live held passes = absurd (omega (arith, passes.some))
+passes_enough high low now before (t ∷ []) live held passes = record {
+  forgets = passes.forgets;
+  rise = passes.rise;
+  least = (
+    ⊎_elim
+        (λ by. let same : t ≡ by.0 = ⊎_elim (λ e. e) (λ none. absurd (none_in_nil by.0 none)) (first_or_later by.0 t [] by.3) in omega (arith, same, by.1, live.2))
+        (λ ended. absurd (omega (arith, ended, live.2))) (passes.forgets.serves live.0 live.1),
+    All-nil _,
+  );
+}
+passes_enough high low now before (a ∷ b ∷ times) live held passes =
+    let near : now - b < low = ⊎_elim (λ less. less) (λ far. absurd (held (inr far))) (cases_lt (now - b) low) in record {
+      forgets = passes.forgets;
+      rise = passes.rise;
+      least = (
+        ⊎_elim (λ past. absurd (held (inl past))) (λ alive. alive) (cases_lt high (now - a)),
+        all_from (λ l. now - l < low) (b ∷ times) (λ time there. ⊎_elim (λ same. omega (arith, same, near)) (λ behind.
+            let above : b < time = All-contains (λ l. b < l) times time passes.rise.2.1 behind in omega (arith, above, near)) (first_or_later time b times there)),
+      );
+    }
+
+-- one time is settled
+pub alone_settled : (high low now t : ℕ) → RiseTo now (t ∷ []) → (time : ℕ) × Contains (t ∷ []) time × (now - time ≤ high) → SettlesTimes high low now (t ∷ []) (t ∷ [])
+alone_settled high low now t rise live = passes_enough high low now (t ∷ []) (t ∷ []) live (λ no. no) (passes_none high low now (t ∷ []) rise live)
+
+pub before_now : (now first : ℕ) → RiseTo now (first ∷ []) → (Contains (first ∷ []) now → ⊥) → first < now
+before_now now first rise later_one = ⊎_elim (λ same. absurd (later_one (0, omega arith, same))) (λ less. less) (equal_or_below first now rise.0)
+
+two_rise : (now first : ℕ) → first < now → RiseTo now (first ∷ now ∷ [])
+two_rise now first below = (
+  omega (arith, below),
+  all_from (λ l. first < l) (now ∷ []) (λ time there.
+      ⊎_elim (λ same. omega (arith, same, below)) (λ none. absurd (none_in_nil time none)) (first_or_later time now [] there)),
+  (omega arith, All-nil _, tt),
+)
+
+-- of two the first is passed, or both stay
+pub one_passed : (high low now first : ℕ) → first < now → (high < now - first) ⊎ (low ≤ now - now) → SettlesTimes high low now (first ∷ now ∷ []) (now ∷ [])
+one_passed high low now first below passed = record {
+  forgets = forgets_first high low now (first ∷ now ∷ []) first now [] below passed (forgets_none high low now (first ∷ now ∷ []));
+  rise = (omega arith, All-nil _, tt);
+  least = (omega arith, All-nil _);
+}
+
+pub two_held : (high low now first : ℕ) → first < now → (now - first ≤ high) × (now - now < low) → SettlesTimes high low now (first ∷ now ∷ []) (first ∷ now ∷ [])
+two_held high low now first below held = record {
+  forgets = forgets_none high low now (first ∷ now ∷ []);
+  rise = two_rise now first below;
+  least = (
+    held.0,
+    all_from (λ l. now - l < low) (now ∷ []) (λ time there.
+        ⊎_elim (λ same. omega (arith, same, held.1)) (λ none. absurd (none_in_nil time none)) (first_or_later time now [] there)),
+  );
+}
 
 -- ---- a time is added
 
@@ -152,17 +204,68 @@ adds_no_later interval now before after endless rise least same =
     no_end None not_some = refl
     no_end (Some x) not_some = absurd (not_some x refl)
 
+-- ---- times of which none is later than those behind it
+
+pub rising_of : (last : ℕ) (times : List ℕ) → RiseTo last times → IsRisingBy ◌<◌ times
+rising_of last [] rise = tt
+rising_of last (t ∷ times) rise = (rise.1, rising_of last times rise.2)
+
+pub rising_push : (times : List ℕ) (time : ℕ) → IsRisingBy ◌<◌ times → All (λ t. t < time) times → IsRisingBy ◌<◌ (times ++ time ∷ [])
+rising_push times time rises earlier = rises_append ◌<◌ times (time ∷ []) rises (All-nil _, tt) (λ x y first second.
+    ⊎_elim (λ same. subst (λ t. x < t) same (All-contains (λ t. t < time) times x earlier first)) (λ none. absurd (none_in_nil y none)) (first_or_later y time [] second))
+
+pub rising_places : (times : List ℕ) (i j d e : ℕ) → IsRisingBy ◌<◌ times → i ≤ j → j < length times → get_or times i d ≤ get_or times j e
+rising_places [] i j d e rises le within = absurd (omega (arith, within))
+rising_places (t ∷ times) zero zero d e rises le within = omega arith
+rising_places (t ∷ times) zero (suc j) d e rises le within =
+    let inside : j < length times = omega (arith, within) in
+    let above : t < get_or times j e = All-contains (λ l. t < l) times (get_or times j e) rises.0 (Contains-get_or times j e inside) in omega (arith, above)
+rising_places (t ∷ times) (suc i) zero d e rises le within = absurd (omega (arith, le))
+rising_places (t ∷ times) (suc i) (suc j) d e rises le within = rising_places times i j d e rises.1 (omega (arith, le)) (omega (arith, within))
+
 -- ---- a time at a distance in the interval
 
-pub not_in : (interval : Interval) (now : ℕ) (times : List ℕ) (i : ℕ) (d : ℕ) → i < length times → (IsIn interval (now - get_or times i d) → ⊥)
-    → (IsSomeIn interval now (take i times) → ⊥) → IsSomeIn interval now (take (i + 1) times) → ⊥
-not_in interval now times i d below outside none some =
-    ⊎_elim (λ before. none (some.0, before, some.2)) (λ last. outside (subst (λ t. IsIn interval (now - t))
-    (⊎_elim (λ same. sym same) (λ b. absurd (none_in_nil some.0 b)) (first_or_later some.0 (get_or times i d) [] last)) some.2))
-    (Contains-append_cases (take i times) (get_or times i d ∷ []) some.0 (subst (λ l. Contains l some.0) (take_more times i d below) some.1))
+-- those that are far enough come first
+pub far_first : (times : List ℕ) (low now : ℕ) → IsRisingBy ◌<◌ times → IsPartitionedBy (λ y. leb low (now - y)) times
+far_first times low now rises = λ i j d le within far.
+    let below : get_or times i d ≤ get_or times j d = rising_places times i j d d rises le within in
+    let enough : low ≤ now - get_or times j d = leb-true low (now - get_or times j d) far in
+    ⊎_elim (λ yes. yes.0) (λ no. absurd (omega (arith, below, enough, no.1))) (leb_tells low (now - get_or times i d))
 
-pub none_in : (interval : Interval) (now : ℕ) (times : List ℕ) (i : ℕ) → length times ≤ i → (IsSomeIn interval now (take i times) → ⊥) → IsSomeIn interval now times → ⊥
-none_in interval now times i all none = subst (λ l. IsSomeIn interval now l → ⊥) (take_all i times all) none
+-- and the last of them is the nearest
+module _ (interval : Interval) (now : ℕ) (times : List ℕ) (rises : IsRisingBy ◌<◌ times) (far : ℕ) (within : far ≤ length times)
+    (enough : (place : ℕ) (d : ℕ) → place < far → interval.low ≤ now - get_or times place d)
+    (near : (place : ℕ) (d : ℕ) → far ≤ place → place < length times → now - get_or times place d < interval.low) where
+  pub last_far_in : (d : ℕ) → 0 < far → IsIn interval (now - get_or times (far - 1) d) → IsSomeIn interval now times
+  last_far_in d some is = (get_or times (far - 1) d, Contains-get_or times (far - 1) d (omega (arith, some, within)), is)
+
+  some_far : (time : ℕ) → Contains times time → interval.low ≤ now - time → 0 < far
+  some_far time there low = ⊎_elim (λ none.
+      let at : get_or times there.0 time ≡ time = there.2 in
+      absurd (omega (arith, none, at, low, near there.0 time (omega (arith, none)) there.1))) (λ some. some) (cases_le far 0)
+
+  pub in_last_far : (d : ℕ) → IsSomeIn interval now times → (0 < far) × IsIn interval (now - get_or times (far - 1) d)
+  in_last_far d some =
+      let there = some.1 in
+      let at : get_or times there.0 some.0 ≡ some.0 = there.2 in
+      let any = some_far some.0 there some.2.0 in
+      let inside : there.0 < far = ⊎_elim (λ past. absurd (omega (arith, at, some.2.0, near there.0 some.0 past there.1))) (λ less. less) (cases_le far there.0) in
+      let later_one : get_or times there.0 some.0 ≤ get_or times (far - 1) d = rising_places times there.0 (far - 1) some.0 d rises (omega (arith, inside)) (omega (arith, any, within)) in
+      (any, (enough (far - 1) d (omega (arith, any)), nearer interval.high some.0 (get_or times (far - 1) d) (omega (arith, at, later_one)) some.2.1))
+    where
+      nearer : (high : Option ℕ) (a b : ℕ) → a ≤ b → IsUpTo high (now - a) → IsUpTo high (now - b)
+      nearer None a b below up = tt
+      nearer (Some high) a b below up = omega (arith, below, up)
+
+pub only_in : (interval : Interval) (now t : ℕ) → IsIn interval (now - t) ↔ IsSomeIn interval now (t ∷ [])
+only_in interval now t = (
+  λ is. (t, here t [], is),
+  λ some. subst (λ x. IsIn interval (now - x)) (⊎_elim (λ same. sym same) (λ none. absurd (none_in_nil some.0 none)) (first_or_later some.0 t [] some.1)) some.2,
+)
+
+pub only_place : (t place d : ℕ) → place < 1 → t ≡ get_or (t ∷ []) place d
+only_place t zero d within = refl
+only_place t (suc place) d within = absurd (omega (arith, within))
 
 -- ---- the latest time
 
@@ -178,15 +281,30 @@ rise_latest last (u ∷ w ∷ times) d rise time there =
     subst (λ n. time ≤ get_or (u ∷ w ∷ times) n d) place
     (⊎_elim (λ same. let far = later_ones w (here w times) in omega (arith, same, first, far)) (λ behind. later_ones time behind) (first_or_later time u (w ∷ times) there))
 
-pub some_latest : (times : List ℕ) (d : ℕ) (x : ℕ) → Some x ≡ slice_get times (length times - 1) → Contains times x × (x ≡ get_or times (length times - 1) x)
-some_latest times d x is = (there_from_get times (length times - 1) x (sym is), got_at times (length times - 1) x (sym is))
+pub some_latest : (times : List ℕ) (x : ℕ) → Some x ≡ slice_get times (length times - 1) → Contains times x × (x ≡ get_or times (length times - 1) x)
+some_latest times x is = (there_from_get times (length times - 1) x (sym is), got_at times (length times - 1) x (sym is))
   where
     got_at : (xs : List ℕ) (i : ℕ) (y : ℕ) → slice_get xs i ≡ Some y → y ≡ get_or xs i y
     got_at [] i y e = absurd (none-some y e)
     got_at (z ∷ xs) zero y e = sym (same_Some z y e)
     got_at (z ∷ xs) (suc i) y e = got_at xs i y e
 
-pub latest_of : (now : ℕ) (items slice : List ℕ) (x : ℕ) → slice ≡ items → Some x ≡ slice_get slice (length slice - 1) → RiseTo now items → (x ≤ now) × ((time : ℕ) → Contains items time → time ≤ x)
-latest_of now items slice x same is rise =
-    let at = some_latest items 0 x (subst (λ l. Some x ≡ slice_get l (length l - 1)) same is) in
-    (up_to now items x rise at.0, λ time there. subst (λ y. time ≤ y) (sym at.1) (rise_latest now items x rise time there))
+pub latest_of : (now : ℕ) (times : List ℕ) (x : ℕ) → Some x ≡ slice_get times (length times - 1) → RiseTo now times → (x ≤ now) × ((time : ℕ) → Contains times time → time ≤ x)
+latest_of now times x is rise =
+    let at = some_latest times x is in
+    (up_to now times x rise at.0, λ time there. subst (λ y. time ≤ y) (sym at.1) (rise_latest now times x rise time there))
+
+pub no_latest : (times : List ℕ) → slice_get times (length times - 1) ≡ None → times ≡ []
+no_latest [] none = refl
+no_latest (t ∷ times) none = absurd (none-some (get_or (t ∷ times) (length (t ∷ times) - 1) t)
+    (sym none ∙ slice_get-get_or (t ∷ times) (length (t ∷ times) - 1) t (omega arith)))
+
+pub either_way : {X E : Type 0} (r : Result X E) (P Q R : Type 0) → OnOk r P → OnErr r Q → (P → R) → (Q → R) → R
+either_way (Ok x) P Q R ok err p q = p ok
+either_way (Err e) P Q R ok err p q = q err
+
+pub adds_none : (now : ℕ) (before after : List ℕ) → after ≡ before → AddsAtMost now before after
+adds_none now before after same = record {
+  from = λ time there. inl (subst (λ l. Contains l time) same there);
+  behind = λ time there. inl (subst (λ (l : List ℕ). Contains (drop 1 l) time) same there);
+}

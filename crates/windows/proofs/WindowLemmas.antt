@@ -1,20 +1,11 @@
 -- Windows that stand for the committed steps.
-use Rattle.windows.proofs.Vocabulary.{◌≡◌, ◌∙◌, ◌↔◌, ◌⊎◌, inl, inr, ⊎_elim, ℕ, ◌-◌}
-use Rattle.windows.proofs.Vocabulary.{◌≤◌, List, [], ◌∷◌, length, map, get_or, All, Contains, Option, None}
-use Rattle.windows.proofs.Vocabulary.{Some, refl, sym, ap, subst, arith, All-contains, All-nil, All-push, All-weaker}
-use Rattle.windows.proofs.Vocabulary.{Contains-get_or, SmallVec, HasNoRepeats, IsIn, IsUpTo, Valuation, Interval, VarId}
-use Rattle.windows.proofs.Vocabulary.{Value, iff_then as then, all_from, later, first_or_later, none_in_nil}
-use Rattle.windows.proofs.Vocabulary.{Contains-from_map, Contains-map, table_row-length, same_row, Relation, IsTable}
-use Rattle.windows.proofs.Vocabulary.{AgreesWithRow, HasValuation, StepsAnswer, AreUpTo, HasColumns, committed_step}
-use Rattle.windows.proofs.Vocabulary.{to_the_end, with_committed_step, CommittedStep, HasPair, IsKeptTime, ChosenBy}
-use Rattle.windows.proofs.Vocabulary.{RememberedIsKept, CommittedStands, AnsweredIsWalked, AddAtMost, AddsTimes}
-use Rattle.windows.proofs.Vocabulary.{AreWindowEntries, AreLeast, Forgets, GivesRow, GivesSomeRow, HasTime, IsAnyRow}
-use Rattle.windows.proofs.Vocabulary.{IsSomeIn, KeepsRows, RowSurvives, IsEndedTime, AreLeastTimes, IsServedTime}
-use Rattle.windows.proofs.Vocabulary.{RiseTo, Queue, Window, AnswersBy, AreTables, FitsColumns, HasRowAfterStep}
-use Rattle.windows.proofs.Vocabulary.{StandsWithStep, HasLeast, HasRow, IsCommittedBy, IsWindow, IsWalkedLater}
-use Rattle.windows.proofs.Vocabulary.{IsWalkedNow, WindowKeeps, KeepsLeast, WindowRemembers, WindowRemembersIn}
-use Rattle.windows.proofs.Vocabulary.{StandsForSteps, SurvivesFor, TellsFor, AnswersNow, kept_entries, Surviving, Only}
-use Rattle.windows.proofs.Vocabulary.{AllBut}
+use Rattle.windows.proofs.Vocabulary.{◌≡◌, ◌∙◌, ◌↔◌, ◌⊎◌, inl, inr, ⊎_elim, ℕ, ◌-◌, ◌≤◌, List, [], length, map, get_or, All, Contains, Option, None, Some, refl, sym, ap, subst, arith, All-contains}
+use Rattle.windows.proofs.Vocabulary.{All-nil, All-push, All-weaker, Contains-get_or, HasNoRepeats, IsIn, IsUpTo, Valuation, Interval, VarId, Value, iff_then as then, all_from, later, none_in_nil}
+use Rattle.windows.proofs.Vocabulary.{Contains-from_map, Contains-map, table_row-length, same_row, Relation, IsTable, AgreesWithRow, HasValuation, StepsAnswer, AreUpTo, HasColumns, committed_step}
+use Rattle.windows.proofs.Vocabulary.{to_the_end, with_committed_step, CommittedStep, HasPair, IsKeptTime, ChosenBy, RememberedIsKept, CommittedStands, AnsweredIsWalked, AddAtMost, AddsTimes}
+use Rattle.windows.proofs.Vocabulary.{AreWindowEntries, AreLeast, Forgets, GivesRow, GivesSomeRow, HasTime, IsAnyRow, IsSomeIn, KeepsRows, RowSurvives, IsEndedTime, AreLeastTimes, IsServedTime}
+use Rattle.windows.proofs.Vocabulary.{RiseTo, Queue, Window, AnswersBy, AreTables, FitsColumns, HasRowAfterStep, StandsWithStep, HasLeast, HasRow, IsCommittedBy, IsWindow, IsWalkedLater, IsWalkedNow}
+use Rattle.windows.proofs.Vocabulary.{WindowKeeps, KeepsLeast, WindowRemembers, WindowRemembersIn, StandsForSteps, SurvivesFor, TellsFor, AnswersNow, kept_entries, Surviving, Only, AllBut}
 use Rattle.windows.specs.declared.surviving_rows.Surviving.TheVariants.{All as Whole}
 use Rattle.windows.proofs.EntryLemmas.{fit_of, least_of, served_by, served_on}
 use Rattle.windows.proofs.HeldLemmas.{held_more, none_held, nothing_at_first, one_step_more}
@@ -163,18 +154,12 @@ walked_later window t has steps stands v = then (has v) (stands.keeps window.las
 
 -- ---- rows with their times
 
-pub to_view : (es : List (List Value × SmallVec ℕ)) (row : List Value) (times : SmallVec ℕ) → Contains es (row, times) → Contains (kept_entries es) (row, times.items)
-to_view [] row times there = absurd (none_in_nil (row, times) there)
-to_view (e ∷ es) row times there =
-    ⊎_elim (λ same. (0, omega arith, (λ i. ((same i).0, (same i).1.items)))) (λ behind. later (row, times.items) (e.0, e.1.items) (kept_entries es) (to_view es row times behind))
-    (first_or_later (row, times) e es there)
+pub to_view : (es : List (List Value × List ℕ)) (row : List Value) (times : List ℕ) → Contains es (row, times) → Contains (kept_entries es) (row, times)
+to_view es row times there = there
 
-pub from_view : (es : List (List Value × SmallVec ℕ)) (row : List Value) (times : List ℕ) → Contains (kept_entries es) (row, times) → (kept : SmallVec ℕ)
-    × Contains es (row, kept) × (kept.items ≡ times)
-from_view [] row times there = absurd (none_in_nil (row, times) there)
-from_view (e ∷ es) row times there =
-    ⊎_elim (λ same. (e.1, (0, omega arith, (λ i. ((same i).0, e.1))), ap (λ p. p.1) same))
-    (λ behind. let found = from_view es row times behind in (found.0, later (row, found.0) e es found.1, found.2)) (first_or_later (row, times) (e.0, e.1.items) (kept_entries es) there)
+pub from_view : (es : List (List Value × List ℕ)) (row : List Value) (times : List ℕ) → Contains (kept_entries es) (row, times) → (kept : List ℕ)
+    × Contains es (row, kept) × (kept ≡ times)
+from_view es row times there = (times, there, refl)
 
 module _ (columns : List VarId) (distinct : HasNoRepeats columns) where
   -- rows of these columns that have a valuation's values
@@ -226,12 +211,11 @@ remembers_from before after time S right from serves J serves_in alive later pas
     found : (j : ℕ) → HasRowAfterStep before time S right v j → IsIn J (later - j) → WindowRemembersIn J after later v
     found j goes within = ⊎_elim (λ by. let o = serves_in later j (HasRow after v) past by within in (o.0, o.2, o.1)) (λ ended. absurd (alive later j past within ended)) (serves v j goes)
 
-pub same_rows : (es : List (List Value × SmallVec ℕ)) → map (λ e. e.0) (kept_entries es) ≡ map (λ e. e.0) es
-same_rows [] = refl
-same_rows (e ∷ es) = ap (λ l. e.0 ∷ l) (same_rows es)
+pub same_rows : (es : List (List Value × List ℕ)) → map (λ e. e.0) (kept_entries es) ≡ map (λ e. e.0) es
+same_rows es = refl
 
 -- a window of these entries has the least times of its rows
-pub keeps_least : (interval : Interval) (columns : List VarId) (last : ℕ) (es : List (List Value × SmallVec ℕ)) → HasNoRepeats columns → AreWindowEntries (length columns) last es
+pub keeps_least : (interval : Interval) (columns : List VarId) (last : ℕ) (es : List (List Value × List ℕ)) → HasNoRepeats columns → AreWindowEntries (length columns) last es
     → AreLeast interval last es
     → KeepsLeast (record { interval = interval; columns = columns; last = last; kept = kept_entries es })
 keeps_least interval columns last es distinct kept least = record {
@@ -245,11 +229,11 @@ keeps_least interval columns last es distinct kept least = record {
   unique = subst HasNoRepeats (sym (same_rows es)) kept.unique;
 }
 
-pub window_least : (interval : Interval) (columns : List VarId) (last : ℕ) (es : List (List Value × SmallVec ℕ)) (queue : Queue) → IsWindow interval columns last es queue
+pub window_least : (interval : Interval) (columns : List VarId) (last : ℕ) (es : List (List Value × List ℕ)) (queue : Queue) → IsWindow interval columns last es queue
     → KeepsLeast (record { interval = interval; columns = columns; last = last; kept = kept_entries es })
 window_least interval columns last es queue is = keeps_least interval columns last es is.distinct is.kept is.least
 
-module _ (interval : Interval) (columns : List VarId) (last time : ℕ) (es left middle after : List (List Value × SmallVec ℕ)) (s : Surviving) (right : Relation) (distinct : HasNoRepeats columns)
+module _ (interval : Interval) (columns : List VarId) (last time : ℕ) (es left middle after : List (List Value × List ℕ)) (s : Surviving) (right : Relation) (distinct : HasNoRepeats columns)
     (kept : AreWindowEntries (length columns) last es) (same : FitsColumns columns s) (tables : IsAnyRow left → AreTables s) (right_columns : right.columns ≡ columns)
     (forgets : Forgets interval time es left) (keeps : KeepsRows (RowSurvives s) left middle) (most : AddAtMost time (Contains right.rows) middle after)
     (adds : AddsTimes interval time (Contains right.rows) middle after)
@@ -259,7 +243,7 @@ module _ (interval : Interval) (columns : List VarId) (last time : ℕ) (es left
 
   has_now : (row : List Value) (t : ℕ) (v : Valuation) → HasTime after row t → AgreesWithRow v columns row
       → HasRow (record { interval = interval; columns = columns; last = time; kept = kept_entries after }) v t
-  has_now row t v has agrees = (row, has.0.items, to_view after row has.0 has.1, has.2, agrees)
+  has_now row t v has agrees = (row, has.0, to_view after row has.0 has.1, has.2, agrees)
 
   from_now : (v : Valuation) (t : ℕ) → HasRow (record { interval = interval; columns = columns; last = time; kept = kept_entries after }) v t
       → HasRowAfterStep (record { interval = interval; columns = columns; last = last; kept = kept_entries es }) time (SurvivesFor s) right v t
@@ -267,7 +251,7 @@ module _ (interval : Interval) (columns : List VarId) (last time : ℕ) (es left
       let entry = from_view after h.0 h.1 h.2 in
       ⊎_elim
       (λ mid. let both = (keeps.exact h.0 t).0 mid in let was = forgets.from h.0 t both.0 in
-      inl ((h.0, was.0.items, to_view es h.0 was.0 was.1, was.2, h.4), (survives_for columns distinct s v h.0 same (tables ((h.0, both.0.0), both.0.1)) (long h.0 t was) h.4).0 both.1))
+      inl ((h.0, was.0, to_view es h.0 was.0 was.1, was.2, h.4), (survives_for columns distinct s v h.0 same (tables ((h.0, both.0.0), both.0.1)) (long h.0 t was) h.4).0 both.1))
       (λ added. inr (added.0, (h.0, added.1, subst (λ l. AgreesWithRow v l h.0) (sym right_columns) h.4)))
       (most.from h.0 t (entry.0, entry.1, subst (λ l. Contains l t) (sym entry.2) h.3))
 
@@ -331,17 +315,17 @@ kept_is_had window least v = (
 
 -- ---- the rows that are given at a time
 
-module _ (interval J : Interval) (columns : List VarId) (last time : ℕ) (es : List (List Value × SmallVec ℕ)) (s : Surviving) (distinct : HasNoRepeats columns)
+module _ (interval J : Interval) (columns : List VarId) (last time : ℕ) (es : List (List Value × List ℕ)) (s : Surviving) (distinct : HasNoRepeats columns)
     (kept : AreWindowEntries (length columns) last es) (same : FitsColumns columns s) (tables : GivesSomeRow J time es → AreTables s) where
   pub given_rows : (v : Valuation) → ((row : List Value) × GivesRow J time (RowSurvives s) es row × AgreesWithRow v columns row)
       ↔ (WindowRemembersIn J (record { interval = interval; columns = columns; last = last; kept = kept_entries es }) time v × SurvivesFor s v)
   given_rows v = (
     λ h. let g = h.1.0 in
         let fits_in = (fit_of (length columns) last es h.0 g.0 kept g.1).0 in
-        ((g.2.0, g.2.2, (h.0, g.0.items, to_view es h.0 g.0 g.1, g.2.1, h.2)), (survives_for columns distinct s v h.0 same (tables (h.0, (g, tt))) fits_in h.2).0 h.1.1),
+        ((g.2.0, g.2.2, (h.0, g.0, to_view es h.0 g.0 g.1, g.2.1, h.2)), (survives_for columns distinct s v h.0 same (tables (h.0, (g, tt))) fits_in h.2).0 h.1.1),
     λ both. let h = both.0 in let entry = from_view es h.2.0 h.2.1 h.2.2 in
         let fits_in = (fit_of (length columns) last es h.2.0 entry.0 kept entry.1).0 in
-        let some : IsSomeIn J time entry.0.items = (h.0, subst (λ l. Contains l h.0) (sym entry.2) h.2.3, h.1) in
+        let some : IsSomeIn J time entry.0 = (h.0, subst (λ l. Contains l h.0) (sym entry.2) h.2.3, h.1) in
         (h.2.0, ((entry.0, entry.1, some), (survives_for columns distinct s v h.2.0 same (tables (h.2.0, ((entry.0, entry.1, some), tt))) fits_in h.2.4).1 both.1), h.2.4),
   )
 
@@ -360,22 +344,22 @@ table_gives t columns out same rows v = (
   λ h. (h.0, (rows h.0).1 h.1, subst (λ l. AgreesWithRow v l h.0) (sym same) h.2),
 )
 
-module _ (window : Window) (interval : Interval) (columns : List VarId) (last time : ℕ) (es : List (List Value × SmallVec ℕ)) (distinct : HasNoRepeats columns)
+module _ (window : Window) (interval : Interval) (columns : List VarId) (last time : ℕ) (es : List (List Value × List ℕ)) (distinct : HasNoRepeats columns)
     (kept : AreWindowEntries (length columns) last es)
     (is : record { interval = interval; columns = columns; last = last; kept = kept_entries es } ≡ window) where
   pub key_fits : (row : List Value) → Contains (map (λ e. e.0) es) row → length row ≡ length columns
-  key_fits row there = let e = Contains-from_map (λ (x : List Value × SmallVec ℕ). x.0) es row there in ap length (sym e.2) ∙ (fit_of (length columns) last es e.0.0 e.0.1 kept e.1).0
+  key_fits row there = let e = Contains-from_map (λ (x : List Value × List ℕ). x.0) es row there in ap length (sym e.2) ∙ (fit_of (length columns) last es e.0.0 e.0.1 kept e.1).0
 
   -- a table of all rows has those that have some time, and so what is kept
   pub had_rows : (items out : List (List Value)) (t : Relation) → items ≡ [] → ((row : List Value) → Contains out row ↔ (Contains items row ⊎ Contains (map (λ e. e.0) es) row)) → t.columns ≡ columns
       → ((row : List Value) → Contains t.rows row ↔ Contains out row) → (v : Valuation) → HasValuation t v ↔ ((time : ℕ) × HasRow window v time)
   had_rows items out t empty outs same rows v = subst (λ w. HasValuation t v ↔ ((time : ℕ) × HasRow w v time)) is
       (then (table_gives t columns out same rows v) (
-        λ h. let e = Contains-from_map (λ (x : List Value × SmallVec ℕ). x.0) es h.0 (⊎_elim (λ none. absurd (none_in_nil h.0 (subst (λ l. Contains l h.0) empty none)))
+        λ h. let e = Contains-from_map (λ (x : List Value × List ℕ). x.0) es h.0 (⊎_elim (λ none. absurd (none_in_nil h.0 (subst (λ l. Contains l h.0) empty none)))
             (λ key. key) ((outs h.0).0 h.1)) in
-            let first = first_of e.0.1.items (fit_of (length columns) last es e.0.0 e.0.1 kept e.1).2 in
-            (first.0, (e.0.0, e.0.1.items, to_view es e.0.0 e.0.1 e.1, first.1, subst (AgreesWithRow v columns) (sym e.2) h.2)),
-        λ had. let h = had.1 in let entry = from_view es h.0 h.1 h.2 in (h.0, (outs h.0).1 (inr (Contains-map (λ (x : List Value × SmallVec ℕ). x.0) es (h.0, entry.0) entry.1)), h.4),
+            let first = first_of e.0.1 (fit_of (length columns) last es e.0.0 e.0.1 kept e.1).2 in
+            (first.0, (e.0.0, e.0.1, to_view es e.0.0 e.0.1 e.1, first.1, subst (AgreesWithRow v columns) (sym e.2) h.2)),
+        λ had. let h = had.1 in let entry = from_view es h.0 h.1 h.2 in (h.0, (outs h.0).1 (inr (Contains-map (λ (x : List Value × List ℕ). x.0) es (h.0, entry.0) entry.1)), h.4),
       ))
 
   pub kept_rows : (items out : List (List Value)) (t : Relation) → AreLeast interval last es → items ≡ []

@@ -1,4 +1,5 @@
 pub mod RowTimes
+pub mod StoredTimes
 pub mod WindowEntries
 pub mod RowQueries
 pub mod Slots

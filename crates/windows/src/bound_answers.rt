@@ -52,9 +52,9 @@ fn is_given_under<V: Lookup>(
     interval: Interval,
     now: u64,
 ) -> bool
-    ensures given { IsTrue result ↔ (IsSomeIn interval now times.now.items
+    ensures given { IsTrue result ↔ (IsSomeIn interval now times.now
         × SurvivesUnder surviving.now (cells query.entry.columns.now (V.valuation query.entry.values.now)) row.now) }
-    ensures tables { IsSomeIn interval now times.now.items → AreTables surviving.now }
+    ensures tables { IsSomeIn interval now times.now → AreTables surviving.now }
 {
     let is_given = is_given(row, times, surviving, interval, now);
     is_given && are_as_bound(query.columns, query.values, row.as_slice())

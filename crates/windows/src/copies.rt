@@ -12,7 +12,6 @@ use enf_data::items::Duplicate;
 use enf_data::memory::NoMemory;
 use enf_data::rows::Row;
 use indexmap::IndexMap;
-use smallvec::SmallVec;
 use std::alloc::Global;
 
 impl Duplicate for SinceWindow {
@@ -66,9 +65,9 @@ fn copy_entries(alloc: Global, entries: &Entries) -> Result<Entries, NoMemory>
 fn copy_entry(alloc: Global, row: &Row, times: &Times, copy: &mut Entries) -> Result<(), NoMemory>
     requires { Contains (map (λ e. e.0) copy.old.entries) row.now → ⊥ }
     ensures { OnOk result (kept_entries copy.new.entries
-        ≡ kept_entries copy.old.entries ++ (row.now, times.now.items) ∷ []) }
+        ≡ kept_entries copy.old.entries ++ (row.now, times.now) ∷ []) }
 {
-    let times = SmallVec::from_slice(alloc, times.as_slice())?;
+    let times = times.duplicate(alloc)?;
     copy.insert(row.duplicate(alloc)?, times)?;
     Ok(())
 }

@@ -10,13 +10,12 @@ ghost use Rattle.windows.specs.machine.WindowEntries.{GivesRow, GivesSomeRow, Is
 ghost use Rattle.windows.specs.machine.WindowEntries.{KeepsRows, RowSurvives};
 
 use crate::surviving_rows::Surviving;
-use crate::times::{Times, add_time, are_ended, has_in, settle};
+use crate::times::Times;
 use enf_data::intervals::Interval;
 use enf_data::items::Duplicate;
 use enf_data::memory::NoMemory;
 use enf_data::rows::Row;
 use indexmap::IndexMap;
-use smallvec::SmallVec;
 use std::alloc::Global;
 use valuations::Table;
 
@@ -41,11 +40,9 @@ pub fn add_row(
     ensures least { AreLeast interval now entries.new.entries }
 {
     if let Some(place) = entries.get_index_of(row) {
-        return add_time(&mut entries[place], interval, now);
+        return entries[place].add(alloc, interval, now);
     }
-    let mut times = SmallVec::new(alloc);
-    times.push(now)?;
-    entries.insert(row.duplicate(alloc)?, times)?;
+    entries.insert(row.duplicate(alloc)?, Times::one(now))?;
     Ok(())
 }
 
@@ -124,10 +121,10 @@ pub fn is_given(
     interval: Interval,
     now: u64,
 ) -> bool
-    ensures given { IsTrue result ↔ (IsSomeIn interval now times.now.items × RowSurvives surviving.now row.now) }
-    ensures tables { IsSomeIn interval now times.now.items → AreTables surviving.now }
+    ensures given { IsTrue result ↔ (IsSomeIn interval now times.now × RowSurvives surviving.now row.now) }
+    ensures tables { IsSomeIn interval now times.now → AreTables surviving.now }
 {
-    has_in(times, interval, now) && surviving.has(row)
+    times.has_in(interval, now) && surviving.has(row)
 }
 
 // Puts each row last.
@@ -202,10 +199,10 @@ fn settle_row(entries: &mut Entries, row: &Row, interval: Interval, high: u64, n
     ensures settled { IsSettledRow high interval.low now entries.new.entries row.now }
 {
     if let Some(place) = entries.get_index_of(row) {
-        if are_ended(&entries[place], high, now) {
+        if entries[place].are_ended(high, now) {
             entries.swap_remove_index(place);
         } else {
-            settle(&mut entries[place], interval.low, high, now);
+            entries[place].settle(interval.low, high, now);
         }
     }
 }

@@ -24,7 +24,6 @@ use enf_data::memory::NoMemory;
 use enf_data::rows::Row;
 use enf_data::terms::Vars;
 use indexmap::IndexMap;
-use smallvec::SmallVec;
 use std::alloc::Global;
 use valuations::Table;
 
@@ -161,12 +160,12 @@ fn push_times(
     times: &Times,
     out: &mut Vec<KeptPair>,
 ) -> Result<(), NoMemory>
-    ensures { OnOk result (out.new.items ≡ out.old.items ++ map (pair row.now) times.now.items) }
+    ensures { OnOk result (out.new.items ≡ out.old.items ++ map (pair row.now) times.now) }
 {
-    for time in times.as_slice() {
+    for place in 0..times.len() {
         out.push(KeptPair {
             row: row.duplicate(alloc)?,
-            time: *time,
+            time: times.at(place),
         })?;
     }
     Ok(())
@@ -204,16 +203,14 @@ fn entries_of(alloc: Global, pairs: Vec<KeptPair>) -> Result<Entries, NoMemory>
 
 // Puts the time last among those of the row.
 fn put_time(alloc: Global, entries: &mut Entries, pair: KeptPair) -> Result<(), NoMemory>
+    requires { (done : List Pair) × AreEntriesOf done entries.old.entries × AreBefore done pair }
     ensures { OnOk result ((done : List Pair) → AreEntriesOf done entries.old.entries → AreBefore done pair
         → AreEntriesOf (done ++ pair ∷ []) entries.new.entries) }
 {
     if let Some(place) = entries.get_index_of(&pair.row) {
-        entries[place].push(pair.time)?;
-        return Ok(());
+        return entries[place].push(alloc, pair.time);
     }
-    let mut times = SmallVec::new(alloc);
-    times.push(pair.time)?;
-    entries.insert(pair.row, times)?;
+    entries.insert(pair.row, Times::one(pair.time))?;
     Ok(())
 }
 

@@ -11,7 +11,6 @@ use crate::prev_slot::PrevSlot;
 use crate::row_query::RowQuery;
 use crate::since::SinceWindow;
 use crate::surviving_rows::Surviving;
-use crate::times::has_in;
 use enf_data::items::Duplicate;
 use enf_data::memory::NoMemory;
 use enf_data::rows::Row;
@@ -110,7 +109,7 @@ impl SinceWindow {
             values: v,
         };
         match self.entries.get(query) {
-            Some(times) => has_in(times, self.interval, time),
+            Some(times) => times.has_in(self.interval, time),
             None => false,
         }
     }

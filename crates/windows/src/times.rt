@@ -1,74 +1,257 @@
 //! The times at which one row was right, of which only those are kept that a later step can ask for.
-ghost use Rattle.std.specs.Prelude.{◌≡◌, ◌↔◌, ◌-◌, ◌<◌, ◌≤◌, ◌⊎◌, ℕ, OnOk, IsTrue};
-ghost use Rattle.std.specs.Prelude.{IsFalse, Some, Contains, drop, length};
-ghost use Rattle.windows.specs.machine.WindowEntries.{AddsAtMost, AddsTime, ForgetsTimes, IsSomeIn};
-ghost use Rattle.windows.specs.machine.RowTimes.{IsEndedTime, AreLeastTimes, RiseTo};
+ghost use Rattle.std.specs.Prelude.{◌≡◌, ◌↔◌, ◌++◌, ◌∷◌, [], ◌-◌, ◌<◌, ◌≤◌, ◌⊎◌, ℕ, IfOk, OnErr, OnOk};
+ghost use Rattle.std.specs.Prelude.{All, IsFalse, IsTrue, Some, Contains, get_or, length, slice_get};
+ghost use Rattle.windows.specs.machine.StoredTimes.{stored_times};
+ghost use Rattle.windows.specs.machine.WindowEntries.{AddsAtMost, AddsTime, IsSomeIn, SettlesTimes};
+ghost use Rattle.windows.specs.meaning.KeptPairs.{IsRisingBy};
+ghost use Rattle.windows.specs.machine.RowTimes.{AreLeastTimes, IsEndedTime, IsFirstPassed, RiseTo};
 
 use enf_data::intervals::Interval;
+use enf_data::items::Duplicate;
 use enf_data::memory::NoMemory;
-use smallvec::SmallVec;
+use std::alloc::Global;
+use std::collections::VecDeque;
+use std::marker::Model;
 
-/// The times of a row; one or two where the interval begins at 0 or has no end.
-pub type Times = SmallVec<u64, 2>;
+/// The times of a row in order, seen as the list of them. One takes no memory, and there is no more than one where the
+/// interval begins at 0 or has no end.
+#[derive(Debug, Drop)]
+pub struct Times {
+    stored: Stored,
+}
 
-// Adds the time. Of an interval without end the earliest is kept alone.
-pub fn add_time(times: &mut Times, interval: Interval, now: u64) -> Result<(), NoMemory>
-    requires rise { RiseTo now times.old.items }
-    requires least { AreLeastTimes interval.high interval.low now times.old.items }
-    ensures among { AddsAtMost now times.old.items times.new.items }
-    ensures added { OnOk result (AddsTime interval now times.old.items times.new.items) }
-    ensures rise { RiseTo now times.new.items }
-    ensures least { AreLeastTimes interval.high interval.low now times.new.items }
-{
-    if let Some(high) = interval.high {
-        if !ends_with(times, now) {
-            times.push(now)?;
-            settle(times, interval.low, high, now);
+#[derive(Debug, Drop)]
+pub(crate) enum Stored {
+    One(u64),
+    Several(Box<VecDeque<u64>>),
+}
+
+impl Model for Times {
+    ghost use Rattle.std.specs.Prelude.{List, ℕ, ◌<◌};
+    ghost use Rattle.windows.specs.machine.StoredTimes.{stored_times};
+    ghost use Rattle.windows.specs.meaning.KeptPairs.{IsRisingBy};
+
+    ghost Value = { List ℕ };
+
+    ghost view = { λ t. stored_times t.stored };
+
+    ghost invariant = { λ t. IsRisingBy ◌<◌ (stored_times t.stored) };
+}
+
+impl Times {
+    // The time alone.
+    pub fn one(time: u64) -> Times
+        ensures { result ≡ time ∷ [] }
+    {
+        Times {
+            stored: Stored::One(time),
         }
     }
+
+    // How many times there are.
+    pub fn len(&self) -> usize
+        ensures { result ≡ length self.now }
+    {
+        match &self.stored {
+            Stored::One(_time) => 1,
+            Stored::Several(times) => times.len(),
+        }
+    }
+
+    // The time at a place, counted from 0.
+    pub fn at(&self, place: usize) -> u64
+        requires { place < length self.now }
+        ensures { (d : ℕ) → result ≡ get_or self.now place d }
+    {
+        match &self.stored {
+            Stored::One(time) => *time,
+            Stored::Several(times) => times[place],
+        }
+    }
+
+    // The last of them.
+    fn latest(&self) -> Option<u64>
+        ensures { result ≡ slice_get self.now (length self.now - 1) }
+    {
+        match &self.stored {
+            Stored::One(time) => Some(*time),
+            Stored::Several(times) => last_of(times),
+        }
+    }
+
+    // Puts the time last. The others are earlier.
+    pub fn push(&mut self, alloc: Global, time: u64) -> Result<(), NoMemory>
+        requires { All (λ earlier. earlier < time) self.old }
+        ensures ok { OnOk result (self.new ≡ self.old ++ time ∷ []) }
+        ensures err { OnErr result (self.new ≡ self.old) }
+    {
+        let first = match &mut self.stored {
+            Stored::Several(times) => return put_last(times, time),
+            Stored::One(first) => *first,
+        };
+        self.stored = Stored::Several(two_times(alloc, first, time)?);
+        Ok(())
+    }
+
+    // Adds the time. Of an interval without end the earliest is kept alone.
+    pub fn add(&mut self, alloc: Global, interval: Interval, now: u64) -> Result<(), NoMemory>
+        requires rise { RiseTo now self.old }
+        requires least { AreLeastTimes interval.high interval.low now self.old }
+        ensures among { AddsAtMost now self.old self.new }
+        ensures added { OnOk result (AddsTime interval now self.old self.new) }
+        ensures rise { RiseTo now self.new }
+        ensures least { AreLeastTimes interval.high interval.low now self.new }
+    {
+        let Some(high) = interval.high else {
+            return Ok(());
+        };
+        if self.ends_with(now) {
+            return Ok(());
+        }
+        self.push_settled(alloc, interval.low, high, now)
+    }
+
+    // Whether the time is the last of them.
+    fn ends_with(&self, now: u64) -> bool
+        requires { RiseTo now self.now }
+        ensures { IsTrue result ↔ Contains self.now now }
+    {
+        match self.latest() {
+            Some(latest) => latest == now,
+            None => false,
+        }
+    }
+
+    // Puts the time last, which is later than the others, and forgets those before it that a later step need not have.
+    fn push_settled(&mut self, alloc: Global, low: u64, high: u64, now: u64) -> Result<(), NoMemory>
+        requires rise { RiseTo now self.old }
+        requires later { Contains self.old now → ⊥ }
+        ensures settles { OnOk result (SettlesTimes high low now (self.old ++ now ∷ []) self.new) }
+        ensures err { OnErr result (self.new ≡ self.old) }
+    {
+        let first = match &mut self.stored {
+            Stored::Several(times) => {
+                put_last(times, now)?;
+                settle_all(times, low, high, now);
+                return Ok(());
+            }
+            Stored::One(first) => *first,
+        };
+        let stored = two_settled(alloc, first, low, high, now)?;
+        self.stored = stored;
+        Ok(())
+    }
+
+    // Forgets the times that are past the end, and of those that are far enough all but the latest.
+    pub fn settle(&mut self, low: u64, high: u64, now: u64)
+        requires rise { RiseTo now self.old }
+        requires live { (time : ℕ) × Contains self.old time × (now - time ≤ high) }
+        ensures { SettlesTimes high low now self.old self.new }
+    {
+        if let Stored::Several(times) = &mut self.stored {
+            settle_all(times, low, high, now);
+        }
+    }
+
+    // Whether one of the times is at a distance in the interval. Of those that are far enough the latest is the nearest.
+    pub fn has_in(&self, interval: Interval, now: u64) -> bool
+        ensures { IsTrue result ↔ IsSomeIn interval now self.now }
+    {
+        match &self.stored {
+            Stored::One(time) => interval.has(now.saturating_sub(*time)),
+            Stored::Several(times) => is_some_in(times, interval, now),
+        }
+    }
+
+    // Whether each of the times is past the end of the interval.
+    pub fn are_ended(&self, high: u64, now: u64) -> bool
+        requires { RiseTo now self.now }
+        ensures ended { IsTrue result
+            → ((time : ℕ) → Contains self.now time → IsEndedTime (Some high) now time) }
+        ensures live { IsFalse result → (time : ℕ) × Contains self.now time × (now - time ≤ high) }
+    {
+        match self.latest() {
+            Some(latest) => high < now - latest,
+            None => true,
+        }
+    }
+}
+
+impl Duplicate for Times {
+    fn duplicate(&self, alloc: Global) -> Result<Times, NoMemory> {
+        let stored = match &self.stored {
+            Stored::One(time) => Stored::One(*time),
+            Stored::Several(times) => Stored::Several(copy_times(alloc, times)?),
+        };
+        Ok(Times { stored })
+    }
+}
+
+fn last_of(times: &VecDeque<u64>) -> Option<u64>
+    ensures { result ≡ slice_get times.now.items (length times.now.items - 1) }
+{
+    match times.back() {
+        Some(time) => Some(*time),
+        None => None,
+    }
+}
+
+fn put_last(times: &mut VecDeque<u64>, time: u64) -> Result<(), NoMemory>
+    ensures ok { OnOk result (times.new.items ≡ times.old.items ++ time ∷ []) }
+    ensures err { OnErr result (times.new.items ≡ times.old.items) }
+{
+    times.push_back(time)?;
     Ok(())
 }
 
-// Whether the time is the last of them.
-fn ends_with(times: &Times, now: u64) -> bool
-    requires { RiseTo now times.now.items }
-    ensures { IsTrue result ↔ Contains times.now.items now }
+fn two_times(alloc: Global, first: u64, second: u64) -> Result<Box<VecDeque<u64>>, NoMemory>
+    ensures { IfOk result (λ times. times.value.items ≡ first ∷ second ∷ []) }
 {
-    match times.as_slice().last() {
-        Some(latest) => *latest == now,
-        None => false,
-    }
+    let mut times = VecDeque::with_capacity(alloc, 2)?;
+    times.push_back(first)?;
+    times.push_back(second)?;
+    Ok(Box::new(alloc, times)?)
 }
 
-// Forgets the times that are past the end, and of those that are far enough all but the latest.
-pub fn settle(times: &mut Times, low: u64, high: u64, now: u64)
+// Of two times the second, where the first is passed, and else both.
+fn two_settled(alloc: Global, first: u64, low: u64, high: u64, now: u64) -> Result<Stored, NoMemory>
+    requires { first < now }
+    ensures { IfOk result (λ stored. SettlesTimes high low now (first ∷ now ∷ []) (stored_times stored)) }
+{
+    if is_passed(first, now, low, high, now) {
+        return Ok(Stored::One(now));
+    }
+    Ok(Stored::Several(two_times(alloc, first, now)?))
+}
+
+fn copy_times(alloc: Global, times: &VecDeque<u64>) -> Result<Box<VecDeque<u64>>, NoMemory>
+    ensures { IfOk result (λ copy. copy.value.items ≡ times.now.items) }
+{
+    let mut copy = VecDeque::with_capacity(alloc, times.len())?;
+    for time in times.iter() {
+        copy.push_back(*time)?;
+    }
+    Ok(Box::new(alloc, copy)?)
+}
+
+fn settle_all(times: &mut VecDeque<u64>, low: u64, high: u64, now: u64)
     requires rise { RiseTo now times.old.items }
     requires live { (time : ℕ) × Contains times.old.items time × (now - time ≤ high) }
-    ensures forgets { ForgetsTimes high low now times.old.items times.new.items }
-    ensures rise { RiseTo now times.new.items }
-    ensures least { AreLeastTimes (Some high) low now times.new.items }
+    ensures { SettlesTimes high low now times.old.items times.new.items }
 {
-    let passed = count_passed(times.as_slice(), low, high, now);
-    times.drain(..passed);
-}
-
-// How many times at the front are past the end, or have another after them that is far enough.
-fn count_passed(times: &[u64], low: u64, high: u64, now: u64) -> usize
-    requires rise { RiseTo now times.now }
-    requires live { (time : ℕ) × Contains times.now time × (now - time ≤ high) }
-    ensures within { result ≤ length times.now }
-    ensures rise { RiseTo now (drop result times.now) }
-    ensures forgets { ForgetsTimes high low now times.now (drop result times.now) }
-    ensures least { AreLeastTimes (Some high) low now (drop result times.now) }
-{
-    let mut passed = 0;
-    while passed + 1 < times.len() && is_passed(times[passed], times[passed + 1], low, high, now) {
-        passed += 1;
+    while is_first_passed(times, low, high, now) {
+        times.pop_front();
     }
-    passed
 }
 
 // Whether the first time is past the end, or the second far enough.
+fn is_first_passed(times: &VecDeque<u64>, low: u64, high: u64, now: u64) -> bool
+    ensures passed { IsTrue result → IsFirstPassed high low now times.now.items }
+    ensures held { IsFalse result → IsFirstPassed high low now times.now.items → ⊥ }
+{
+    1 < times.len() && is_passed(times[0], times[1], low, high, now)
+}
+
 fn is_passed(first: u64, second: u64, low: u64, high: u64, now: u64) -> bool
     ensures passed { IsTrue result → (high < now - first) ⊎ (low ≤ now - second) }
     ensures held { IsFalse result → (now - first ≤ high) × (now - second < low) }
@@ -76,27 +259,21 @@ fn is_passed(first: u64, second: u64, low: u64, high: u64, now: u64) -> bool
     high < now.saturating_sub(first) || low <= now.saturating_sub(second)
 }
 
-// Whether one of the times is at a distance in the interval.
-pub fn has_in(times: &Times, interval: Interval, now: u64) -> bool
+fn is_some_in(times: &VecDeque<u64>, interval: Interval, now: u64) -> bool
+    requires { IsRisingBy ◌<◌ times.now.items }
     ensures { IsTrue result ↔ IsSomeIn interval now times.now.items }
 {
-    for time in times.as_slice() {
-        if interval.has(now.saturating_sub(*time)) {
-            return true;
-        }
-    }
-    false
+    let far = count_far(times, interval.low, now);
+    0 < far && interval.has(now.saturating_sub(times[far - 1]))
 }
 
-// Whether each of the times is past the end of the interval.
-pub fn are_ended(times: &Times, high: u64, now: u64) -> bool
-    requires { RiseTo now times.now.items }
-    ensures ended { IsTrue result
-        → ((time : ℕ) → Contains times.now.items time → IsEndedTime (Some high) now time) }
-    ensures live { IsFalse result → (time : ℕ) × Contains times.now.items time × (now - time ≤ high) }
+// How many of the times are far enough.
+fn count_far(times: &VecDeque<u64>, low: u64, now: u64) -> usize
+    requires { IsRisingBy ◌<◌ times.now.items }
+    ensures within { result ≤ length times.now.items }
+    ensures far { (place : ℕ) (d : ℕ) → place < result → low ≤ now - get_or times.now.items place d }
+    ensures near { (place : ℕ) (d : ℕ) → result ≤ place → place < length times.now.items
+        → now - get_or times.now.items place d < low }
 {
-    let Some(latest) = times.as_slice().last() else {
-        return true;
-    };
-    high < now - *latest
+    times.partition_point(|time| low <= now.saturating_sub(*time))
 }

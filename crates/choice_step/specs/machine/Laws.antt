@@ -10,7 +10,8 @@ use Rattle.std.specs.Prelude.{Option, IsTrue, All}
 use Rattle.enf_formula.specs.meaning.Satisfaction.{Formula}
 use Rattle.trace_meaning.specs.declared.kinds.StepKind.TheVariants.{Inserted}
 use Rattle.trace_meaning.specs.meaning.Traces.{Leads, IsCause, event_of, Record, recorded}
-use Rattle.plan_terms.specs.meaning.Plans.{NothingClashes, IsCaused, IsSuppressed, Plan, guard_triggers}
+use Rattle.plan_terms.specs.meaning.Plans.{NothingClashes, IsCaused, IsSuppressed, Plan}
+use Rattle.plan_terms.specs.machine.WakingNames.{waking_names}
 use Rattle.obligations.specs.declared.actions.Action.{Action}
 use Rattle.obligations.specs.declared.instances.Instance.{Instance}
 use Rattle.obligations.specs.machine.AskablePlans.{CanAskOf, CanAskRoots}
@@ -22,15 +23,17 @@ use Rattle.choice_step.specs.meaning.ActedSteps.{ActedStep, change_of}
 use Rattle.choice_step.specs.meaning.Choice.{Decides, trace_with_step, MissesNothing, all_asked}
 use Rattle.choice_step.specs.meaning.Follows.{Follows, FollowsDrain, GoesOut, IsLeastDeadline, InsertsSteps}
 
--- where nothing is pending and no rule has a trigger among the events, nothing is done at the step
+-- where nothing is pending and no event wakes a rule, nothing is done at the step, if the rules can be asked
 abbrev pub AsleepDecidesNothing : Type 0
-AsleepDecidesNothing = (plans : List Plan) (trace : List Step) (inserted : Bool) (time : ℕ) (events : List Event)
-    → AllSleep (map guard_triggers plans) events → Decides plans trace [] inserted time events [] events
+AsleepDecidesNothing = (guards : List (Formula × List VarId)) (plans : List Plan) (trace : List Step)
+    (inserted : Bool) (time : ℕ) (events : List Event) → CanAskRoots guards plans
+    → AllSleep (map waking_names plans) events → Decides plans trace [] inserted time events [] events
 
--- where nothing is pending and no rule has a trigger among the events, the step begins nothing
+-- where nothing is pending and no event wakes a rule, the step begins nothing, if the rules can be asked
 abbrev pub AsleepBeginsNothing : Type 0
-AsleepBeginsNothing = (plans : List Plan) (trace : List Step) (time : ℕ) (events : List Event)
-    → AllSleep (map guard_triggers plans) events → PendingAfter plans (trace_with_step trace time events) [] []
+AsleepBeginsNothing = (guards : List (Formula × List VarId)) (plans : List Plan) (trace : List Step) (time : ℕ)
+    (events : List Event) → CanAskRoots guards plans → AllSleep (map waking_names plans) events
+    → PendingAfter plans (trace_with_step trace time events) [] []
 
 -- at most one decision fits the rules at a step without repeats
 abbrev pub DecidesIsOne : Type 0

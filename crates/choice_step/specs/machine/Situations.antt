@@ -4,7 +4,8 @@ use Rattle.enf_data.specs.declared.steps.Step.{Step}
 use Rattle.std.specs.List.{AllByRecursion}
 use Rattle.std.specs.Prelude.{List, map, ◌≡◌, length, Contains, Option, ◌<◌, ℕ, slice_get}
 use Rattle.plan_terms.specs.machine.StoredPlans.{plan_of}
-use Rattle.plan_terms.specs.meaning.Plans.{Plan, guard_triggers}
+use Rattle.plan_terms.specs.machine.WakingNames.{waking_names}
+use Rattle.plan_terms.specs.meaning.Plans.{Plan}
 use Rattle.obligations.specs.declared.actions.Action.{Action}
 use Rattle.obligations.specs.declared.instances.Instance.{Instance}
 use Rattle.obligations.specs.declared.literals.Literal.{Literal}
@@ -29,7 +30,7 @@ step_of_situation situation = step_situation situation.plans.now situation.pendi
 
 -- the step can be decided, and what wakes the rules is that of their plans
 pub record CanDecideSituation (situation : Situation) : Type 0 where
-  pub wakes : situation.wakes.now ≡ map guard_triggers (situation_plans situation)
+  pub wakes : situation.wakes.now ≡ map waking_names (situation_plans situation)
   pub step : CanDecide (step_of_situation situation)
 
 -- some pending instances

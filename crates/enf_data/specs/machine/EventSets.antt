@@ -1,6 +1,9 @@
 -- What the calls of an event set do to its list of events, and how it is kept.
-use Rattle.enf_data.specs.meaning.Membership.{TakesOut}
-use Rattle.std.specs.Prelude.{◌≡◌, Bool, true, false, List, [], ◌∷◌, ◌++◌, Contains}
+use Rattle.enf_data.specs.declared.events.Event.{Event}
+use Rattle.enf_data.specs.meaning.Membership.{HasNoRepeats, TakesOut}
+use Rattle.enf_data.specs.meaning.Values.{has_event}
+use Rattle.std.specs.List.{filter}
+use Rattle.std.specs.Prelude.{◌≡◌, Bool, true, false, List, [], ◌∷◌, ◌++◌, Contains, not}
 
 -- what an insertion of x does: x goes last where it was not there, which the answer says, and else nothing changes
 pub record InsertsItem {X : Type 0} (x : X) (before : List X) (new : Bool) (after : List X) : Type 0 where
@@ -17,3 +20,17 @@ InsertsEach {X = X} before (x ∷ xs) after =
 pub record RemovesItem {X : Type 0} (x : X) (before : List X) (found : Bool) (after : List X) : Type 0 where
   pub present : found ≡ true → TakesOut x before after
   pub absent : found ≡ false → (Contains before x → ⊥) × (after ≡ before)
+
+-- the events of the first list that are not in the second, in their order
+abbrev pub without_events : (events gone : List Event) → List Event
+without_events events gone = filter (λ event. not (has_event gone event)) events
+
+-- items are taken out one after another, each where it is there
+abbrev pub TakesOutEach : {X : Type 0} → (before : List X) → List X → (after : List X) → Type 0
+TakesOutEach before [] after = after ≡ before
+TakesOutEach {X = X} before (x ∷ xs) after = (next : List X) × TakesOut x before next × TakesOutEach next xs after
+
+-- to take events out one after another leaves those that are none of them
+abbrev pub TakenOutAreGone : Type 0
+TakenOutAreGone = (before gone after : List Event) → HasNoRepeats before → TakesOutEach before gone after
+    → after ≡ without_events before gone

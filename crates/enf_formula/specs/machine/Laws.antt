@@ -4,7 +4,7 @@ use Rattle.enf_data.specs.declared.steps.Step.{Step}
 use Rattle.enf_data.specs.meaning.Valuations.{Valuation}
 use Rattle.std.specs.Prelude.{ℕ, ◌↔◌, List, IsTrue}
 use Rattle.enf_formula.specs.machine.Agreement.{AgreeOnFreeVariables, AgreeUpTo, HaveSameNamedEvents, names_in_formula}
-use Rattle.enf_formula.specs.meaning.FormulaShape.{is_past}
+use Rattle.enf_formula.specs.machine.FormulaShape.{is_past}
 use Rattle.enf_formula.specs.meaning.Satisfaction.{Formula, Classically, Sat}
 
 -- a statement holds where its denial is false

@@ -1,7 +1,7 @@
 -- The variables that formulas bind, and lists of variables.
 use Rattle.enf_data.specs.declared.terms.VarId.{VarId}
 use Rattle.std.specs.Prelude.{List, [], ◌++◌, ℕ, zero, suc, ◌∷◌, ◌⊎◌, Contains}
-use Rattle.enf_formula.specs.meaning.FormulaShape.{IsTermInScope, AreTermsInScope, AreNewVariables}
+use Rattle.enf_formula.specs.machine.FormulaShape.{IsTermInScope, AreTermsInScope, AreNewVariables}
 use Rattle.enf_formula.specs.meaning.Satisfaction.{Formula, IsFree, True, False, Atom, Equal, Less, AtMost, Not, And}
 use Rattle.enf_formula.specs.meaning.Satisfaction.{Or, Implies, Exists, Forall, Prev, Next, Once, Historically, Since}
 use Rattle.enf_formula.specs.meaning.Satisfaction.{Eventually, Always, Until}

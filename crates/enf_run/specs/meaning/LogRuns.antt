@@ -52,6 +52,7 @@ pub record SaysActionsInPart (entries : List NameEntry) (rules : List Rule) (ste
   pub writes : after.write_faults ≡ faults before.write_faults
   pub reads : after.read_faults ≡ before.read_faults
 
+-- what is seen of the gate and of the report at one moment
 pub record Seen : Type 0 where
   pub gate : Stream
   pub report : Stream

@@ -160,8 +160,9 @@ pub record GivesOwed (IsOwed : List Record → List ActedStep → Type 0) (s : L
 abbrev pub policy_of : LogSetting → List Formula
 policy_of s = all_formulas s.rules
 
--- these steps are owed to the records so far: they are a lawful change of them that can be continued well, each change
--- is justified, and the policy decides these and no others
+-- these steps are owed to the records so far: they are a lawful change of them, with inserted steps below the clock,
+-- that can be continued well, each change is justified, and the policy decides these and no others; under the mark the
+-- steps of the records are emitted alone, as they came, where they can be continued well
 pub record IsOwedSoFar (s : LogSetting) (records : List Record) (out : List ActedStep) : Type 0 where
   pub lawful : Lawful (is_causable s.entries) (is_suppressible s.entries) records (out_steps out)
   pub so_far : IsGoodSoFar s.entries s.rules s.start records out

@@ -109,6 +109,7 @@ text_of_refusal (refusals.Record number why) =
     codes "record " ++ decimal number ++ codes ": " ++ text_of_record_refusal why ++ codes "\n"
 text_of_refusal refusals.ReadFault = codes "read fault\n"
 
+-- the status with which a run ends that is refused so
 abbrev pub refusal_status : Refusal → Status
 refusal_status refusals.Words = statuses.Words
 refusal_status (refusals.Record number why) = statuses.Record
@@ -127,7 +128,7 @@ pub record IsPart (front text : List ℕ) : Type 0 where
   pub some : rest ≢ []
   pub split : text ≡ front ++ rest
 
--- the report gained a front of the text, and not the whole of it
+-- a device gained a front of the text, and not the whole of it
 pub record AddsPart (text : List ℕ) (before after : Option Exchange) : Type 0 where
   pub front : List ℕ
   pub part : IsPart front text

@@ -4,7 +4,7 @@ use Rattle.enf_data.specs.declared.terms.VarId.{VarId}
 use Rattle.std.specs.List.{flat_map}
 use Rattle.std.specs.Prelude.{Bool, List, Ok, ◌≡◌, IsTrue, Contains, ℕ, Some, slice_get, ◌≤◌}
 use Rattle.enf_formula.specs.machine.Laws.{AreEquivalent}
-use Rattle.enf_formula.specs.meaning.FormulaShape.{is_past, formula_size}
+use Rattle.enf_formula.specs.machine.FormulaShape.{is_past, formula_size}
 use Rattle.enf_formula.specs.meaning.Satisfaction.{Formula, Not, formula_place}
 use Rattle.monitorable_guard.specs.meaning.Safety.{Safe}
 use Rattle.plan_terms.specs.machine.WellFormed.{IsNumberedPlan, GuardsAreSafe}

@@ -7,7 +7,7 @@ use Rattle.enf_data.specs.meaning.Valuations.{Valuation, with_values}
 use Rattle.std.specs.List.{AllByRecursion}
 use Rattle.std.specs.Prelude.{ℕ, List, Contains, slice_get, [], Bool, Ok, ◌⊎◌}
 use Rattle.enf_formula.specs.machine.Variables.{IsClosed}
-use Rattle.enf_formula.specs.meaning.FormulaShape.{BindsFresh}
+use Rattle.enf_formula.specs.machine.FormulaShape.{BindsFresh}
 use Rattle.enf_formula.specs.meaning.Satisfaction.{Formula, IsFree, Sat}
 use Rattle.signature.specs.declared.entries.NameEntry.{NameEntry}
 use Rattle.signature.specs.declared.entries.Sort.{Sort}

@@ -2,11 +2,11 @@
 use Rattle.enf_data.specs.declared.events.NameId.{NameId}
 use Rattle.enf_data.specs.declared.steps.Step.{Step}
 use Rattle.enf_data.specs.declared.terms.VarId.{VarId}
-use Rattle.std.specs.Prelude.{List, ◌++◌, [], ◌∷◌, Bool, ◌≡◌, IsTrue}
+use Rattle.std.specs.Prelude.{List, ◌++◌, [], ◌∷◌, Bool, ◌≡◌, IsTrue, length}
 use Rattle.enf_formula.specs.meaning.Satisfaction.{Formula}
 use Rattle.signature.specs.declared.entries.NameEntry.{NameEntry}
-use Rattle.trace_meaning.specs.meaning.Enforced.{KeepsUp, Enforced}
-use Rattle.trace_meaning.specs.meaning.Traces.{Good, Satisfies, Record, recorded}
+use Rattle.trace_meaning.specs.machine.Enforced.{KeepsUp, Enforced}
+use Rattle.trace_meaning.specs.meaning.Traces.{Good, Satisfies, Record, recorded, time_of}
 use Rattle.plan_terms.specs.machine.StoredPlans.{formulas_for}
 use Rattle.choice_step.specs.machine.Laws.{AreDistinct}
 use Rattle.choice_step.specs.meaning.ActedSteps.{ActedStep, out_steps, untouched}
@@ -14,12 +14,12 @@ use Rattle.rank_check.specs.meaning.AcceptedPlans.{is_transparent}
 use Rattle.enforce_types.specs.machine.TypedPolicies.{WorkTogether, typed_of}
 use Rattle.enforce_types.specs.meaning.Elab.{ArePlanned}
 use Rattle.enforcer_core.specs.declared.steps.StepOut.{StepOut}
+use Rattle.enforcer_core.specs.machine.Answers.{EnforcerGoesOn, IsCallInTime}
 use Rattle.enforcer_core.specs.machine.Course.{Course}
 use Rattle.enforcer_core.specs.machine.Enforcers.{Enforcing, enforcer_plans, start_of}
-use Rattle.enforcer_core.specs.machine.EnforcerSteps.{EnforcerDrains, EnforcerTakes}
-use Rattle.enforcer_core.specs.machine.LawfulChanges.{Permits}
+use Rattle.enforcer_core.specs.machine.LawfulChanges.{ChangesLawfully, Permits}
 use Rattle.enforcer_core.specs.machine.MadeSteps.{acted_steps}
-use Rattle.enforcer_core.specs.machine.Stands.{FollowsDrainFrom, Stands}
+use Rattle.enforcer_core.specs.machine.Stands.{FollowsDrainFrom, FollowsFrom, KeepsStanding, SatisfiesBehind, Stands}
 use Rattle.enforcer_core.specs.meaning.FollowsPolicy.{FollowsPolicy, FollowsToEnd}
 use Rattle.enforcer_core.specs.meaning.JustifiedByPolicy.{IsJustifiedByPolicy}
 
@@ -45,11 +45,15 @@ CourseIsJustifiedToEnd = (entries : List NameEntry) (policy : List Formula) (gua
 abbrev pub CourseBegins : Type 0
 CourseBegins = (start : Enforcing) (trace : List Step) → Stands start trace → Course start trace [] [] start
 
--- an enforcer that takes one record more, as the contract of a call says its Ok, has taken all of them
+-- an enforcer that takes one record more, and goes on as the contract of a call says of its Ok, has taken all of them
 abbrev pub CourseGoesOn : Type 0
 CourseGoesOn = (start : Enforcing) (trace : List Step) (records : List Record) (out : List ActedStep)
     (now : Enforcing) (next : Record) (made : StepOut) (after : Enforcing)
-    → Course start trace records out now → EnforcerTakes now next made after
+    → Course start trace records out now
+    → IsCallInTime now (time_of next) → EnforcerGoesOn now (time_of next) (length made.steps) after
+    → KeepsStanding now after (acted_steps made.steps)
+    → ChangesLawfully (enforcer_plans now) now.clock (time_of next) (next ∷ []) (acted_steps made.steps)
+    → FollowsFrom now (next ∷ []) (acted_steps made.steps)
     → Course start trace (records ++ next ∷ []) (out ++ acted_steps made.steps) after
 
 -- what was emitted so far keeps up with the records, whatever was decided
@@ -67,7 +71,9 @@ abbrev pub CourseEnforces : Type 0
 CourseEnforces = (causable suppressible : NameId → Bool) (start : Enforcing) (trace : List Step)
     (records : List Record) (out : List ActedStep) (now : Enforcing) (made : StepOut) (after : Enforcing)
     → Permits causable suppressible (enforcer_plans start)
-    → Course start trace records out now → EnforcerDrains now made after
+    → Course start trace records out now
+    → KeepsStanding now after (acted_steps made.steps) → SatisfiesBehind now (acted_steps made.steps)
+    → ChangesLawfully (enforcer_plans now) now.clock after.clock [] (acted_steps made.steps)
     → Enforced causable suppressible (formulas_for (enforcer_plans start)) (start_of start trace) records
     (out_steps (out ++ acted_steps made.steps))
 

@@ -8,7 +8,8 @@ use Rattle.std.specs.Prelude.{◌≡◌, List, IsTrue, map, ℕ, ◌+◌, ◌^�
 use Rattle.std.specs.Prelude.{[], ◌++◌, Option}
 use Rattle.trace_meaning.specs.declared.kinds.StepKind.{StepKind}
 use Rattle.trace_meaning.specs.meaning.Traces.{last_time}
-use Rattle.plan_terms.specs.meaning.Plans.{NothingClashes, Plan, guard_triggers}
+use Rattle.plan_terms.specs.machine.WakingNames.{waking_names}
+use Rattle.plan_terms.specs.meaning.Plans.{NothingClashes, Plan}
 use Rattle.past_state.specs.machine.GuardPlaces.{placed_guard}
 use Rattle.past_state.specs.machine.OperatorRuns.{AreUpToTimeOf}
 use Rattle.past_state.specs.machine.Past.{PastStands}
@@ -31,7 +32,7 @@ use Rattle.enforcer_core.specs.declared.steps.OutStep as made
 
 -- what wakes each of them, and, where it says that they look at nothing but now, that no node is of the future
 pub record AreFactsOf (plans : List Plan) (facts : kept.PlanFacts) : Type 0 where
-  pub wakes : facts.wakes ≡ map guard_triggers plans
+  pub wakes : facts.wakes ≡ map waking_names plans
   pub present : IsTrue facts.looks_at_now → AllByRecursion LooksAtNow plans
 
 -- the greatest number of steps that are emitted

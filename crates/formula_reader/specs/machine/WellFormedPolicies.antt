@@ -8,7 +8,7 @@ use Rattle.std.specs.Prelude.{ℕ, List, Option, length, slice_get, ◌≡◌, �
 use Rattle.std.specs.Prelude.{map}
 use Rattle.enf_value.specs.meaning.Tokens.{is_name}
 use Rattle.enf_formula.specs.machine.Variables.{IsClosed, bound_variables, numbered_variables, IsScopedFormula}
-use Rattle.enf_formula.specs.meaning.FormulaShape.{BindsFresh, formula_size}
+use Rattle.enf_formula.specs.machine.FormulaShape.{BindsFresh, formula_size}
 use Rattle.enf_formula.specs.meaning.Satisfaction.{Formula, True, False, Atom, Equal, Less, AtMost, Not, And, Or}
 use Rattle.enf_formula.specs.meaning.Satisfaction.{Implies, Exists, Forall, Prev, Next, Once, Historically, Since}
 use Rattle.enf_formula.specs.meaning.Satisfaction.{Eventually, Always, Until}

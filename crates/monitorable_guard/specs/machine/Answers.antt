@@ -7,7 +7,7 @@ use Rattle.enf_data.specs.declared.values.Value.{Value}
 use Rattle.enf_data.specs.meaning.Valuations.{Valuation, value_at, values_of_terms, value_of_term, variable_cmp}
 use Rattle.std.specs.List.Sorted.{IsStrictlySortedBy}
 use Rattle.std.specs.Prelude.{IsSome, ◌⊎◌, List, ◌≡◌, length, All, Some, Contains, ◌↔◌}
-use Rattle.enf_formula.specs.meaning.FormulaShape.{BindsFresh}
+use Rattle.enf_formula.specs.machine.FormulaShape.{BindsFresh}
 use Rattle.enf_formula.specs.meaning.Satisfaction.{Formula, IsFree, AreSameValues}
 use Rattle.valuations.specs.machine.Bindings.{filled_from_row}
 use Rattle.valuations.specs.machine.Tables.{Relation, HasValuation, AgreeOnColumns}

@@ -5,7 +5,7 @@ use Rattle.enf_data.specs.declared.values.Value.{Value}
 use Rattle.enf_data.specs.meaning.Valuations.{Valuation, BindsColumns, variable_cmp}
 use Rattle.std.specs.List.Sorted.{IsStrictlySortedBy}
 use Rattle.std.specs.Prelude.{◌≡◌, ◌↔◌, List, [], ◌∷◌, Contains, ◌⊎◌}
-use Rattle.enf_formula.specs.meaning.FormulaShape.{BindsFresh}
+use Rattle.enf_formula.specs.machine.FormulaShape.{BindsFresh}
 use Rattle.enf_formula.specs.meaning.Satisfaction.{Formula, IsFree}
 use Rattle.valuations.specs.machine.Tables.{Relation, HasValuation, AgreesWhereBound, AgreeOnColumns}
 use Rattle.monitorable_guard.specs.machine.PresentMeaning.{outermost, HoldsNow}

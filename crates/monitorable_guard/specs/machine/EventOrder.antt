@@ -6,7 +6,8 @@ use Rattle.enf_data.specs.meaning.Values.{row_cmp}
 use Rattle.std.specs.Borrow.{Bor}
 use Rattle.std.specs.List.Sorted.{IsSortedByKey}
 use Rattle.std.specs.Ordering.{nat_cmp, ordering_then}
-use Rattle.std.specs.Prelude.{ℕ, List, map, ◌↔◌, Contains, take, ◌≤◌, ⊤, Option, None, Some}
+use Rattle.std.specs.Prelude.{ℕ, suc, List, [], ◌∷◌, map, ◌↔◌, ◌≡◌, Contains, take, ◌≤◌, ⊤}
+use Rattle.std.specs.Prelude.{Option, None, Some}
 use Rattle.std.specs.declared.cmp.Ordering.{Ordering}
 use Rattle.valuations.specs.machine.Tables.{Relation}
 use Rattle.monitorable_guard.specs.declared.events.ByName.{ByName}
@@ -51,3 +52,16 @@ arguments events = map (λ event. event.now.args) events
 abbrev pub kept_rows : Option Relation → List VarId → List (Bor Event) → Relation
 kept_rows (Some table) columns events = table
 kept_rows None columns events = record { columns = columns; rows = arguments events }
+
+-- the arguments begin with the values that are known, up to the first that is not
+abbrev pub BeginAsKnown : List (Option Value) → List Value → Type 0
+BeginAsKnown [] args = Unit {0}
+BeginAsKnown (None ∷ known) args = Unit {0}
+BeginAsKnown (Some value ∷ known) [] = ⊥
+BeginAsKnown (Some value ∷ known) (arg ∷ args) = (arg ≡ value) × BeginAsKnown known args
+
+-- how many values are known before the first that is not
+abbrev pub leading_known : List (Option Value) → ℕ
+leading_known [] = 0
+leading_known (None ∷ known) = 0
+leading_known (Some value ∷ known) = suc (leading_known known)

@@ -8,7 +8,7 @@ use Rattle.enf_data.specs.meaning.Data.{step_at}
 use Rattle.enf_data.specs.meaning.Valuations.{Valuation, BindsColumns, value_at}
 use Rattle.std.specs.Prelude.{◌↔◌, ℕ, List, Contains, [], IsSome, IsTrue, ◌⊎◌, ◌≡◌, Some}
 use Rattle.enf_formula.specs.machine.Agreement.{AgreeOnFreeVariables as AgreeOnFree}
-use Rattle.enf_formula.specs.meaning.FormulaShape.{is_past, BindsFresh}
+use Rattle.enf_formula.specs.machine.FormulaShape.{is_past, BindsFresh}
 use Rattle.enf_formula.specs.meaning.Satisfaction.{Formula, IsFree, Historically, Sat, Classically}
 use Rattle.valuations.specs.machine.Tables.{Relation, HasValuation, AgreeOnColumns, IsTable}
 use Rattle.monitorable_guard.specs.machine.Evaluation.{AreOpen, AreHoldingRows, FitOperators}

@@ -3,7 +3,7 @@ use Rattle.enf_data.specs.declared.terms.VarId.{VarId}
 use Rattle.enf_data.specs.meaning.Valuations.{Valuation, no_values}
 use Rattle.std.specs.List.{AllByRecursion}
 use Rattle.std.specs.Prelude.{◌≡◌, ℕ, List, Some, slice_get, Contains, true}
-use Rattle.enf_formula.specs.meaning.FormulaShape.{AreTermsInScope, AreNewVariables}
+use Rattle.enf_formula.specs.machine.FormulaShape.{AreTermsInScope, AreNewVariables}
 use Rattle.enf_formula.specs.meaning.Satisfaction.{Formula}
 use Rattle.monitorable_guard.specs.machine.Evaluation.{AreOpen}
 use Rattle.monitorable_guard.specs.meaning.Safety.{Safe, FreeWithin}

@@ -6,7 +6,8 @@ use Rattle.enf_data.specs.declared.values.Value.{Value}
 use Rattle.enf_data.specs.declared.values.Value.TheVariants.{Num}
 use Rattle.enf_data.specs.meaning.Valuations.{no_values, Valuation, with_values}
 use Rattle.std.specs.Prelude.{ℕ, [], List, ◌∷◌, ◌+◌, pos, Bool}
-use Rattle.enf_formula.specs.machine.Cases.{name_q, at_time, variable_x, formula_p_x, event_p_of, event_q_of, event_p}
+use Rattle.enf_formula.specs.machine.Cases.{name_p, name_q, at_time, variable_x, formula_p_x, event_p_of, event_q_of}
+use Rattle.enf_formula.specs.machine.Cases.{event_p}
 use Rattle.enf_formula.specs.meaning.Satisfaction.{Formula, True, False}
 use Rattle.trace_meaning.specs.declared.kinds.StepKind.{StepKind}
 use Rattle.trace_meaning.specs.declared.kinds.StepKind.TheVariants.{System}
@@ -43,6 +44,10 @@ cause_q_of_x node = CausePlan node 0 name_q (Var variable_x ∷ [])
 
 abbrev pub each_q : (node : ℕ) → Plan
 each_q node = Guarded node (variable_x ∷ []) 0 formula_p_x (cause_q_of_x (node + 1))
+
+-- no p(x) for each x for which the guard holds
+abbrev pub bar_p_where : (guard : Formula) → Plan
+bar_p_where guard = Guarded 0 (variable_x ∷ []) 0 guard (SuppressPlan 1 0 name_p (Var variable_x ∷ []))
 
 -- p(2) p(1), the greater value first
 abbrev pub two_and_one : List Event

@@ -5,7 +5,7 @@ use Rattle.enf_data.specs.declared.steps.Step.{Step}
 use Rattle.enf_data.specs.meaning.Data.{step_at}
 use Rattle.enf_data.specs.meaning.Valuations.{Valuation}
 use Rattle.std.specs.Prelude.{Option, None, Some, List, Contains, ◌≡◌, ◌⊎◌, ℕ, ◌+◌}
-use Rattle.enf_formula.specs.meaning.Satisfaction.{Formula, And, Atom}
+use Rattle.enf_formula.specs.meaning.Satisfaction.{Formula, Sat}
 use Rattle.plan_terms.specs.meaning.Plans.{Plan, CausePlan, SuppressPlan, Both, Either, TestOr, Guarded, EventuallyPlan}
 use Rattle.plan_terms.specs.meaning.Plans.{AlwaysPlan, UntilPlan, NextPlan, triggers}
 use Rattle.obligations.specs.declared.instances.Instance.{Instance}
@@ -13,11 +13,10 @@ use Rattle.obligations.specs.declared.literals.Literal.{Literal}
 use Rattle.obligations.specs.machine.Leaves.{ChangesEvents, IsLeaf}
 use Rattle.obligations.specs.meaning.Obligations.{time_now, last_position}
 
--- the name of the first atom of a conjunction, if it begins with one
-abbrev pub first_atom_name : Formula → Option NameId
-first_atom_name (Atom place name terms) = Some name
-first_atom_name (And place g h) = first_atom_name g
-first_atom_name f = None
+-- the formula holds nowhere at a step with these events, whatever the values and the steps before and after it
+abbrev pub HoldsNowhere : List Event → Formula → Type 0
+HoldsNowhere events f = (trace : List Step) (i : ℕ) (v : Valuation) → (step_at trace i).events ≡ events
+    → Sat trace i v f → ⊥
 
 -- the events of the last step
 abbrev pub last_events : List Step → List Event

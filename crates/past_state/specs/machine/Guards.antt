@@ -1,7 +1,7 @@
 -- The guards of a past state, from the guards that it was made for.
 use Rattle.std.specs.Prelude.{◌⊎◌, Contains, IsTrue, ℕ, length, ◌≡◌, List, [], ◌∷◌}
 use Rattle.enf_formula.specs.machine.FormulaViews.{tree_of}
-use Rattle.enf_formula.specs.meaning.FormulaShape.{BindsFresh, is_past}
+use Rattle.enf_formula.specs.machine.FormulaShape.{BindsFresh, is_past}
 use Rattle.enf_formula.specs.meaning.Satisfaction.{Formula, IsFree}
 use Rattle.monitorable_guard.specs.machine.Guards.{BoundFormula}
 use Rattle.monitorable_guard.specs.machine.PresentMeaning.{outermost}

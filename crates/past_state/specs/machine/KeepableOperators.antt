@@ -4,7 +4,7 @@ use Rattle.enf_data.specs.declared.terms.VarId.{VarId}
 use Rattle.enf_data.specs.meaning.Valuations.{Valuation}
 use Rattle.std.specs.Prelude.{◌⊎◌, [], Contains, ◌≡◌, List, ◌++◌, All, ℕ}
 use Rattle.enf_formula.specs.machine.FormulaViews.{tree_of}
-use Rattle.enf_formula.specs.meaning.FormulaShape.{BindsFresh}
+use Rattle.enf_formula.specs.machine.FormulaShape.{BindsFresh}
 use Rattle.enf_formula.specs.meaning.Satisfaction.{Formula, IsFree, Prev, Once, Historically, Since, AreFreeVariables}
 use Rattle.enf_formula.specs.meaning.Satisfaction.{Classically, Sat}
 use Rattle.monitorable_guard.specs.machine.Guards.{BoundFormula}

@@ -4,7 +4,7 @@ use Rattle.enf_data.specs.declared.steps.Step.{Step}
 use Rattle.enf_data.specs.meaning.Valuations.{Valuation, BindsColumns}
 use Rattle.std.specs.Prelude.{◌≤◌, List, length, map, sum, ℕ, ◌≡◌, ◌↔◌, Some, IsTrue, [], ◌∷◌}
 use Rattle.std.specs.Prelude.{◌++◌}
-use Rattle.enf_formula.specs.meaning.FormulaShape.{formula_size, is_past}
+use Rattle.enf_formula.specs.machine.FormulaShape.{formula_size, is_past}
 use Rattle.enf_formula.specs.meaning.Satisfaction.{Formula, Since, Once, Historically, Prev, Sat, HoldsAnywhere}
 use Rattle.valuations.specs.machine.Tables.{Relation, HasValuation}
 use Rattle.windows.specs.machine.Slots.{Slot, with_rows, GivesLast}

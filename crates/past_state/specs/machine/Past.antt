@@ -8,7 +8,7 @@ use Rattle.std.specs.Prelude.{List, map, ◌⊎◌, IsTrue, Contains, ◌≡◌,
 use Rattle.std.specs.Prelude.{reverse, All, ◌++◌, ◌≤◌, Some, slice_get, drop, ◌↔◌, IsSome, Bool}
 use Rattle.enf_formula.specs.machine.Agreement.{HaveSameEvents}
 use Rattle.enf_formula.specs.machine.FormulaViews.{tree_of}
-use Rattle.enf_formula.specs.meaning.FormulaShape.{is_past, BindsFresh}
+use Rattle.enf_formula.specs.machine.FormulaShape.{is_past, BindsFresh}
 use Rattle.enf_formula.specs.meaning.Satisfaction.{Formula, IsFree, Sat}
 use Rattle.valuations.specs.machine.Tables.{Relation, HasValuation, AgreeOnColumns}
 use Rattle.monitorable_guard.specs.machine.Evaluation.{FitOperators, AreOpen, AreHoldingRows}

@@ -9,7 +9,7 @@ use Rattle.obligations.specs.declared.literals.Literal.{Literal}
 use Rattle.obligations.specs.machine.AskablePlans.{CanAskOf}
 use Rattle.obligations.specs.meaning.Obligations.{time_now}
 use Rattle.obligations.specs.meaning.Pending.{MissingOf, After, node_of}
-use Rattle.pending.specs.machine.WakePatterns.{InstanceSleeps, IsWindowNotOver}
+use Rattle.pending.specs.machine.InstancePatterns.{InstanceSleeps, IsWindowNotOver}
 
 -- an instance that sleeps misses nothing, where it is not forced
 abbrev pub SleepersMissNothing : Type 0

@@ -7,7 +7,7 @@ use Rattle.sleepers.specs.declared.patterns.Pattern.{Pattern}
 use Rattle.sleepers.specs.machine.Entries.{ArePlaced}
 use Rattle.sleepers.specs.machine.Places.{Place, beginning_at, WasMade}
 use Rattle.obligations.specs.declared.instances.Instance.{Instance}
-use Rattle.pending.specs.machine.WakePatterns.{wake_patterns_of}
+use Rattle.pending.specs.machine.InstancePatterns.{wake_patterns_of}
 
 -- the entry of an instance at a place: the events that can change it wake it, and the end of its window
 abbrev pub entry_at : List Plan → Place → Instance → Entry Instance

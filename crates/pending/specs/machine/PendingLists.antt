@@ -8,7 +8,7 @@ use Rattle.sleepers.specs.declared.patterns.Pattern.{Pattern}
 use Rattle.sleepers.specs.machine.Patterns.{HasNone}
 use Rattle.obligations.specs.declared.instances.Instance.{Instance}
 use Rattle.obligations.specs.machine.Deadlines.{count_due}
-use Rattle.pending.specs.machine.WakePatterns.{wake_patterns_of}
+use Rattle.pending.specs.machine.InstancePatterns.{wake_patterns_of}
 use Rattle.sleepers.specs.contracts.patterns.Pattern as stored_pattern
 use Rattle.obligations.specs.contracts.instances.Instance as stored
 

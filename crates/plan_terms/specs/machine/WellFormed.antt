@@ -2,7 +2,7 @@
 use Rattle.enf_data.specs.declared.terms.VarId.{VarId}
 use Rattle.std.specs.Prelude.{◌≡◌, List, Contains, [], ◌++◌, ℕ, Some, slice_get, IsTrue, ◌⊎◌, ◌≤◌, length, ◌<◌, ◌^◌}
 use Rattle.std.specs.Prelude.{sum_by}
-use Rattle.enf_formula.specs.meaning.FormulaShape.{AreTermsInScope, AreNewVariables, is_past, BindsFresh, formula_size}
+use Rattle.enf_formula.specs.machine.FormulaShape.{AreTermsInScope, AreNewVariables, is_past, BindsFresh, formula_size}
 use Rattle.monitorable_guard.specs.meaning.Safety.{FreeWithin, IsTest, Safe}
 use Rattle.plan_terms.specs.meaning.Plans.{Plan, CausePlan, SuppressPlan, Both, Either, TestOr, Guarded, EventuallyPlan}
 use Rattle.plan_terms.specs.meaning.Plans.{AlwaysPlan, UntilPlan, NextPlan, NothingClashes, nodes, node_number}

@@ -8,7 +8,7 @@ use Rattle.std.specs.Prelude.{slice_index_or, Bool}
 use Rattle.enf_formula.specs.meaning.Satisfaction.{Formula}
 use Rattle.trace_meaning.specs.meaning.Traces.{last_time, Good, Satisfies, AreInOrder, IsLaterThan, Lawful, OutStep}
 use Rattle.trace_meaning.specs.meaning.Traces.{IsWithin, Record, NeverFall, clock_after}
-use Rattle.trace_meaning.specs.meaning.Enforced.{GoodPrefix}
+use Rattle.trace_meaning.specs.machine.Enforced.{GoodPrefix}
 
 -- records, and then more of them, whose times never fall from where the first ones leave the clock
 abbrev pub RecordsJoin : Type 0

@@ -25,3 +25,9 @@ abbrev pub IsServedTime : Option ℕ → ℕ → ℕ → (ℕ → Type 0) → �
 IsServedTime None low now Is time = (other : ℕ) × (other ≤ time) × Is other
 IsServedTime (Some high) low now Is time =
     (other : ℕ) × (time ≤ other) × ((other ≡ time) ⊎ (low ≤ now - other)) × Is other
+
+-- the first time is past the end, or the second is far enough
+abbrev pub IsFirstPassed : ℕ → ℕ → ℕ → List ℕ → Type 0
+IsFirstPassed high low now [] = ⊥
+IsFirstPassed high low now (first ∷ []) = ⊥
+IsFirstPassed high low now (first ∷ second ∷ times) = (high < now - first) ⊎ (low ≤ now - second)

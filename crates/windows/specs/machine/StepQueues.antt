@@ -4,7 +4,6 @@ use Rattle.std.specs.Prelude.{ℕ, List, ◌≤◌, [], ◌∷◌, All, ◌≡�
 use Rattle.std.specs.Prelude.{drop, Contains, ◌⊎◌}
 use Rattle.windows.specs.declared.steps.LastStep.{LastStep}
 use Rattle.windows.specs.machine.WindowEntries.{HasTime, HasBehind}
-use Rattle.smallvec.specs.SmallVec.{SmallVec}
 
 pub record Queue : Type 0 where
   pub steps : List LastStep
@@ -38,7 +37,7 @@ IsInStep steps row time =
     (step : LastStep) × Contains steps step × (step.time ≡ time) × Contains step.rows.rows row
 
 -- each time of a row has its step, and each but the first a step that is not known to be far enough
-pub record AreQueued (entries : List (List Value × SmallVec ℕ)) (queue : Queue) : Type 0 where
+pub record AreQueued (entries : List (List Value × List ℕ)) (queue : Queue) : Type 0 where
   pub times : (row : List Value) (time : ℕ) → HasTime entries row time → IsInStep queue.steps row time
   pub waiting : (row : List Value) (time : ℕ) → HasBehind entries row time
       → IsInStep (waiting_of queue) row time

@@ -15,13 +15,12 @@ use Rattle.windows.specs.machine.StepQueues.{IsInStep}
 use Rattle.windows.specs.machine.WindowEntries.{HasTime}
 use Rattle.windows.specs.machine.Windows.{Window, StandsForSteps}
 use Rattle.windows.specs.meaning.KeptPairs.{IsRisingBy, IsPairBefore, pair, ChosenBy}
-use Rattle.smallvec.specs.SmallVec.{SmallVec}
 
 abbrev pub AreRising : List KeptPair → Type 0
 AreRising pairs = IsRisingBy IsPairBefore pairs
 
 -- all times of the row, in order
-pub record AreTimesOf (entries : List (List Value × SmallVec ℕ)) (row : List Value) (times : List ℕ) : Type 0 where
+pub record AreTimesOf (entries : List (List Value × List ℕ)) (row : List Value) (times : List ℕ) : Type 0 where
   pub rise : IsRisingBy ◌<◌ times
   pub exact : (time : ℕ) → Contains times time ↔ HasTime entries row time
 
@@ -70,9 +69,9 @@ abbrev pub AreBefore : List KeptPair → KeptPair → Type 0
 AreBefore pairs p = (q : KeptPair) → Contains pairs q → IsPairBefore q p
 
 -- the rows of the pairs, no row twice, each with its times in order
-pub record AreEntriesOf (pairs : List KeptPair) (entries : List (List Value × SmallVec ℕ)) : Type 0 where
+pub record AreEntriesOf (pairs : List KeptPair) (entries : List (List Value × List ℕ)) : Type 0 where
   pub exact : (p : KeptPair) → HasTime entries p.row p.time ↔ Contains pairs p
-  pub fit : All (λ e. (0 < length e.1.items) × IsRisingBy ◌<◌ e.1.items) entries
+  pub fit : All (λ e. (0 < length e.1) × IsRisingBy ◌<◌ e.1) entries
   pub unique : HasNoRepeats (map (λ e. e.0) entries)
 
 -- the rows of those pairs that have this time

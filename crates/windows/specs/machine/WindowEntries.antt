@@ -7,26 +7,25 @@ use Rattle.std.specs.Prelude.{◌≤◌, ◌↔◌}
 use Rattle.windows.specs.declared.surviving_rows.Surviving.{Surviving}
 use Rattle.windows.specs.declared.surviving_rows.Surviving.TheVariants.{All as Whole, Only, AllBut}
 use Rattle.windows.specs.machine.RowTimes.{RiseTo, AreLeastTimes, IsEndedTime, IsServedTime}
-use Rattle.smallvec.specs.SmallVec.{SmallVec}
 
 -- the row stands in the list, and the time is one of its times
-abbrev pub HasTime : List (List Value × SmallVec ℕ) → List Value → ℕ → Type 0
+abbrev pub HasTime : List (List Value × List ℕ) → List Value → ℕ → Type 0
 HasTime entries row time =
-    (times : SmallVec ℕ) × Contains entries (row, times) × Contains times.items time
+    (times : List ℕ) × Contains entries (row, times) × Contains times time
 
 -- the row stands in the list, and the time is one of its times, but not the first of them
-abbrev pub HasBehind : List (List Value × SmallVec ℕ) → List Value → ℕ → Type 0
+abbrev pub HasBehind : List (List Value × List ℕ) → List Value → ℕ → Type 0
 HasBehind entries row time =
-    (times : SmallVec ℕ) × Contains entries (row, times) × Contains (drop 1 times.items) time
+    (times : List ℕ) × Contains entries (row, times) × Contains (drop 1 times) time
 
 -- no row stands twice, each is so long, and it has times, which rise
-pub record AreWindowEntries (long last : ℕ) (entries : List (List Value × SmallVec ℕ)) : Type 0 where
-  pub fit : All (λ e. (length e.0 ≡ long) × RiseTo last e.1.items × (0 < length e.1.items)) entries
+pub record AreWindowEntries (long last : ℕ) (entries : List (List Value × List ℕ)) : Type 0 where
+  pub fit : All (λ e. (length e.0 ≡ long) × RiseTo last e.1 × (0 < length e.1)) entries
   pub unique : HasNoRepeats (map (λ e. e.0) entries)
 
 -- the times of each row are just the least
-abbrev pub AreLeast : Interval → ℕ → List (List Value × SmallVec ℕ) → Type 0
-AreLeast interval last entries = All (λ e. AreLeastTimes interval.high interval.low last e.1.items) entries
+abbrev pub AreLeast : Interval → ℕ → List (List Value × List ℕ) → Type 0
+AreLeast interval last entries = All (λ e. AreLeastTimes interval.high interval.low last e.1) entries
 
 -- a time was added to the times of a row, or was not
 pub record AddsAtMost (now : ℕ) (before after : List ℕ) : Type 0 where
@@ -41,14 +40,14 @@ pub record AddsTime (interval : Interval) (now : ℕ) (before after : List ℕ) 
 
 -- a time was added to the times of each row for which R holds, or was not
 pub record AddAtMost (now : ℕ) (R : List Value → Type 0)
-    (before after : List (List Value × SmallVec ℕ)) : Type 0 where
+    (before after : List (List Value × List ℕ)) : Type 0 where
   pub from : (row : List Value) (time : ℕ) → HasTime after row time
       → HasTime before row time ⊎ ((time ≡ now) × R row)
   pub behind : (row : List Value) (time : ℕ) → HasBehind after row time
       → HasBehind before row time ⊎ ((time ≡ now) × R row)
 
 pub record AddsTimes (interval : Interval) (now : ℕ) (R : List Value → Type 0)
-    (before after : List (List Value × SmallVec ℕ)) : Type 0 where
+    (before after : List (List Value × List ℕ)) : Type 0 where
   pub serves : (row : List Value) (time : ℕ) → HasTime before row time
       → IsServedTime interval.high interval.low now (HasTime after row) time ⊎ IsEndedTime interval.high now time
   pub added : (row : List Value) → R row → IsServedTime interval.high interval.low now (HasTime after row) now
@@ -60,21 +59,27 @@ pub record ForgetsTimes (high low now : ℕ) (before after : List ℕ) : Type 0 
   pub serves : (time : ℕ) → Contains before time
       → IsServedTime (Some high) low now (Contains after) time ⊎ IsEndedTime (Some high) now time
 
+-- so they are left out, and the others are the least
+pub record SettlesTimes (high low now : ℕ) (before after : List ℕ) : Type 0 where
+  pub forgets : ForgetsTimes high low now before after
+  pub rise : RiseTo now after
+  pub least : AreLeastTimes (Some high) low now after
+
 -- times at the front of the times of rows are left out, each of which is past the end, or is served
-pub record Forgets (interval : Interval) (now : ℕ) (before after : List (List Value × SmallVec ℕ)) : Type 0 where
+pub record Forgets (interval : Interval) (now : ℕ) (before after : List (List Value × List ℕ)) : Type 0 where
   pub from : (row : List Value) (time : ℕ) → HasTime after row time → HasTime before row time
   pub behind : (row : List Value) (time : ℕ) → HasBehind after row time → HasBehind before row time
   pub serves : (row : List Value) (time : ℕ) → HasTime before row time
       → IsServedTime interval.high interval.low now (HasTime after row) time ⊎ IsEndedTime interval.high now time
 
 -- of the row no time is past the end, and none but the first is far enough
-abbrev pub IsSettledRow : ℕ → ℕ → ℕ → List (List Value × SmallVec ℕ) → List Value → Type 0
+abbrev pub IsSettledRow : ℕ → ℕ → ℕ → List (List Value × List ℕ) → List Value → Type 0
 IsSettledRow high low now entries row = (time : ℕ)
     → (HasTime entries row time → now - time ≤ high) × (HasBehind entries row time → now - time < low)
 
 -- just the rows for which S holds stay
-pub record KeepsRows (S : List Value → Type 0) (before after : List (List Value × SmallVec ℕ)) : Type 0 where
-  pub among : (e : List Value × SmallVec ℕ) → Contains after e → Contains before e
+pub record KeepsRows (S : List Value → Type 0) (before after : List (List Value × List ℕ)) : Type 0 where
+  pub among : (e : List Value × List ℕ) → Contains after e → Contains before e
   pub exact : (row : List Value) (time : ℕ) → HasTime after row time ↔ (HasTime before row time × S row)
   pub unique : HasNoRepeats (map (λ e. e.0) before) → HasNoRepeats (map (λ e. e.0) after)
 
@@ -90,14 +95,14 @@ IsSomeIn interval now times = (time : ℕ) × Contains times time × IsIn interv
 
 -- the row has such a time, and S holds for it
 abbrev pub GivesRow : Interval → ℕ → (List Value → Type 0)
-    → List (List Value × SmallVec ℕ) → List Value → Type 0
+    → List (List Value × List ℕ) → List Value → Type 0
 GivesRow interval now S entries row =
-    ((times : SmallVec ℕ) × Contains entries (row, times) × IsSomeIn interval now times.items) × S row
+    ((times : List ℕ) × Contains entries (row, times) × IsSomeIn interval now times) × S row
 
 -- some row has such a time
-abbrev pub GivesSomeRow : Interval → ℕ → List (List Value × SmallVec ℕ) → Type 0
+abbrev pub GivesSomeRow : Interval → ℕ → List (List Value × List ℕ) → Type 0
 GivesSomeRow interval now entries = (row : List Value) × GivesRow interval now (λ any. Unit {0}) entries row
 
 -- there is a row in the list
-abbrev pub IsAnyRow : List (List Value × SmallVec ℕ) → Type 0
-IsAnyRow entries = (e : List Value × SmallVec ℕ) × Contains entries e
+abbrev pub IsAnyRow : List (List Value × List ℕ) → Type 0
+IsAnyRow entries = (e : List Value × List ℕ) × Contains entries e

@@ -14,7 +14,6 @@ use Rattle.windows.specs.machine.CommittedSteps.{IsKeptTime, with_committed_step
 use Rattle.windows.specs.machine.RowTimes.{AreLeastTimes, RiseTo, IsEndedTime, IsServedTime}
 use Rattle.windows.specs.machine.StepQueues.{Queue, AreInReach, AreQueued, AreUpToTime}
 use Rattle.windows.specs.machine.WindowEntries.{AreWindowEntries, AreLeast}
-use Rattle.smallvec.specs.SmallVec.{SmallVec}
 
 -- rows, each with times at which it was right; the last time is 0 where no step is committed
 pub record Window : Type 0 where
@@ -24,13 +23,13 @@ pub record Window : Type 0 where
   pub kept : List (List Value × List ℕ)
 
 -- the rows with their times
-abbrev pub kept_entries : List (List Value × SmallVec ℕ) → List (List Value × List ℕ)
-kept_entries entries = map (λ e. (e.0, e.1.items)) entries
+abbrev pub kept_entries : List (List Value × List ℕ) → List (List Value × List ℕ)
+kept_entries entries = entries
 
 -- the columns are distinct, the rows are as long as they, and of the times of each just the least are kept; where the
 -- interval has an end, the queue has the step of each time that is kept, and no step that is past the end
 pub record IsWindow (interval : Interval) (columns : List VarId) (last : ℕ)
-    (entries : List (List Value × SmallVec ℕ))
+    (entries : List (List Value × List ℕ))
     (queue : Queue) : Type 0 where
   pub distinct : HasNoRepeats columns
   pub kept : AreWindowEntries (length columns) last entries

@@ -1,6 +1,5 @@
 -- The variables in scope, and the values that they have.
-use Rattle.action_report.proofs.Vocabulary.{◌++◌, List, ℕ, Some, map, sym, ap, ◌∙◌, bindings, plan_of}
-use Rattle.action_report.proofs.Vocabulary.{bindings_text}
+use Rattle.action_report.proofs.Vocabulary.{◌++◌, List, ℕ, Some, map, sym, ap, ◌∙◌, bindings, plan_of, bindings_text}
 use Rattle.action_report.proofs.OneAction.{scope_same}
 use Rattle.action_report.proofs.ReadLemmas.{binds_start, rising_start, same_start, scope_rises, when_none}
 use Rattle.action_report.proofs.bindings.read_valuation.Goals as goal

@@ -1,6 +1,5 @@
 -- What was printed before memory ran out.
-use Rattle.action_report.proofs.Vocabulary.{codes, ap, ◌∙◌, ◌++◌, List, ℕ, on_err_from, part_behind}
-use Rattle.action_report.proofs.Vocabulary.{part_last, part_none, variable_text}
+use Rattle.action_report.proofs.Vocabulary.{codes, ap, ◌∙◌, ◌++◌, List, ℕ, on_err_from, part_behind, part_last, part_none, variable_text}
 use Rattle.action_report.proofs.lines.print_binding.Goals as goal
 
 pub returns-in_err-print_bytes-clause-err : goal.returns-in_err-print_bytes-clause-err

@@ -1,6 +1,5 @@
 -- What was printed before memory ran out.
-use Rattle.action_report.proofs.Vocabulary.{codes, ℕ, ◌++◌, ap, subst, ◌∙◌, AppendsPart, on_err_from}
-use Rattle.action_report.proofs.Vocabulary.{part_behind, part_first, part_last, part_none, labelled}
+use Rattle.action_report.proofs.Vocabulary.{codes, ℕ, ◌++◌, ap, subst, ◌∙◌, AppendsPart, on_err_from, part_behind, part_first, part_last, part_none, labelled}
 use Rattle.action_report.proofs.lines.print_cause.Goals as goal
 
 pub returns-in_err-print_bytes-2-clause-err : goal.returns-in_err-print_bytes-2-clause-err

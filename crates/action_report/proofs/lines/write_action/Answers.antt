@@ -1,9 +1,6 @@
 -- What was printed of a line before memory ran out.
-use Rattle.action_report.proofs.Vocabulary.{◌++◌, ◌∷◌, List, ℕ, codes, slice_get, ap, subst, ◌∙◌}
-use Rattle.action_report.proofs.Vocabulary.{AppendsPart, bindings, VarId, Value, none_last, part_behind, part_first}
-use Rattle.action_report.proofs.Vocabulary.{part_last, on_err_from, entry_names as names_of, spelled_event}
-use Rattle.action_report.proofs.Vocabulary.{policy_rules_of, bindings_text, cause_text, kind_text, rule_name}
-use Rattle.action_report.proofs.Vocabulary.{rule_variable_names, when_text}
+use Rattle.action_report.proofs.Vocabulary.{◌++◌, ◌∷◌, List, ℕ, codes, slice_get, ap, subst, ◌∙◌, AppendsPart, bindings, VarId, Value, none_last, part_behind, part_first, part_last, on_err_from}
+use Rattle.action_report.proofs.Vocabulary.{entry_names as names_of, spelled_event, policy_rules_of, bindings_text, cause_text, kind_text, rule_name, rule_variable_names, when_text}
 use Rattle.action_report.proofs.lines.write_action.Goals as goal
 
 pub returns-in_err-print_event-clause-err : goal.returns-in_err-print_event-clause-err

@@ -1,9 +1,6 @@
 -- The parts of a line, one after the other.
-use Rattle.action_report.proofs.Vocabulary.{◌≡◌, ◌++◌, ℕ, Option, Some, codes, map, slice_get, sym, ap}
-use Rattle.action_report.proofs.Vocabulary.{subst, ◌∙◌, arith, option_map, slice_get-map, bindings}
-use Rattle.action_report.proofs.Vocabulary.{entry_names as names_of, spelled_event, Rule, rule_of, policy_rules_of}
-use Rattle.action_report.proofs.Vocabulary.{plan_of, bindings_text, cause_text, rule_variable_names, when_text}
-use Rattle.action_report.proofs.Vocabulary.{cause_of_action, StandIn}
+use Rattle.action_report.proofs.Vocabulary.{◌≡◌, ◌++◌, ℕ, Option, Some, codes, map, slice_get, sym, ap, subst, ◌∙◌, arith, option_map, slice_get-map, bindings, entry_names as names_of, spelled_event}
+use Rattle.action_report.proofs.Vocabulary.{Rule, rule_of, policy_rules_of, plan_of, bindings_text, cause_text, rule_variable_names, when_text, cause_of_action, StandIn}
 use Rattle.action_report.specs.declared.reading.Cause.{Cause}
 use Rattle.action_report.proofs.NumberLemmas.{no_digit_behind, rule_at}
 use Rattle.action_report.proofs.OneAction.{line_parts, same_action}

@@ -1,6 +1,5 @@
 -- The rule with the name is the first that is found.
-use Rattle.action_report.proofs.Vocabulary.{◌≡◌, ◌<◌, ◌^◌, ℕ, Some, rules, ap, subst, sym, ◌∙◌}
-use Rattle.action_report.proofs.Vocabulary.{position, bytes_eq}
+use Rattle.action_report.proofs.Vocabulary.{◌≡◌, ◌<◌, ◌^◌, ℕ, Some, rules, ap, subst, sym, ◌∙◌, position, bytes_eq}
 use Rattle.formula_reader.specs.declared.policies.Rule.{Rule as StoredRule}
 use Rattle.action_report.proofs.NumberLemmas.{place_named}
 use Rattle.action_report.proofs.reading.rule_named.Goals as goal

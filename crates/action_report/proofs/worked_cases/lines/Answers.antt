@@ -1,5 +1,4 @@
-use Rattle.action_report.proofs.Vocabulary.{◌∷◌, [], arith, refl, decimal_digit, variable_cmp, nothing_bound}
-use Rattle.action_report.proofs.Vocabulary.{report_case_a}
+use Rattle.action_report.proofs.Vocabulary.{◌∷◌, [], arith, refl, decimal_digit, variable_cmp, nothing_bound, report_case_a}
 use Rattle.std.specs.FinMap as finite
 use Rattle.action_report.proofs.worked_cases.lines.Goals as goal
 

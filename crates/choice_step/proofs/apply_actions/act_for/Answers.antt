@@ -1,14 +1,9 @@
-use Rattle.choice_step.proofs.Vocabulary.{◌≡◌, ◌<◌, ℕ, Bool, List, [], ◌∷◌, ◌++◌, Contains}
-use Rattle.choice_step.proofs.Vocabulary.{length, map, refl, subst, sym, ap, ◌∙◌, true≢false, true, IsTrue}
-use Rattle.choice_step.proofs.Vocabulary.{Option, Some, remove, IfSome, later, HasNoRepeats, Event, Past, guard_names}
-use Rattle.choice_step.proofs.Vocabulary.{Plan, plan_of, ChangesEvents, Action, Instance, Literal, ActsFor, ActsOn}
-use Rattle.choice_step.proofs.Vocabulary.{LeavesNothing, Applies, AreLiteralsBehind, WillBeLeft, action_by}
-use Rattle.choice_step.proofs.Vocabulary.{action_found, first_literal, literals_by, plain_by, root_literals, rule_by}
-use Rattle.choice_step.proofs.Vocabulary.{rule_found, Asked, Found}
+use Rattle.choice_step.proofs.Vocabulary.{◌≡◌, ◌<◌, ℕ, Bool, List, [], ◌∷◌, ◌++◌, Contains, length, map, refl, subst, sym, ap, ◌∙◌, true≢false, true, IsTrue, Option, Some, remove, IfSome, later}
+use Rattle.choice_step.proofs.Vocabulary.{HasNoRepeats, Event, Past, guard_names, Plan, plan_of, ChangesEvents, Action, Instance, Literal, ActsFor, ActsOn, LeavesNothing, Applies, AreLiteralsBehind}
+use Rattle.choice_step.proofs.Vocabulary.{WillBeLeft, action_by, action_found, first_literal, literals_by, plain_by, root_literals, rule_by, rule_found, Asked, Found}
 use Rattle.std.specs.Prelude.{slice_index_or}
 use Rattle.choice_step.specs.declared.first_missing.Asked.TheVariants as who
-use Rattle.choice_step.proofs.LoopActionLemmas.{acted_behind, left_but_first, left_spared, met_behind, place_stays}
-use Rattle.choice_step.proofs.LoopActionLemmas.{spared_behind, spared_more, spared_none}
+use Rattle.choice_step.proofs.LoopActionLemmas.{acted_behind, left_but_first, left_spared, met_behind, place_stays, spared_behind, spared_more, spared_none}
 use Rattle.choice_step.proofs.FirstActionLemmas.{by_root, first_is, rest_is}
 use Rattle.choice_step.proofs.apply_actions.act_for.Goals as goal
 

@@ -1,8 +1,6 @@
-use Rattle.choice_step.proofs.Vocabulary.{◌+◌, ◌++◌, [], ◌∷◌, Contains, drop, refl, sym, subst, ap}
-use Rattle.choice_step.proofs.Vocabulary.{◌∙◌, append-nil, append_assoc, true≢false, drop_all, here}
-use Rattle.choice_step.proofs.Vocabulary.{drop_at_item, guard_names, ChangesEvents, Applies, WillBeLeft}
-use Rattle.choice_step.proofs.LoopActionLemmas.{finds_literal, goes_more, in_drop, left_behind, pass, spared_more}
-use Rattle.choice_step.proofs.LoopActionLemmas.{spared_none, wanted_from}
+use Rattle.choice_step.proofs.Vocabulary.{◌+◌, ◌++◌, [], ◌∷◌, Contains, drop, refl, sym, subst, ap, ◌∙◌, append-nil, append_assoc, true≢false, drop_all, here, drop_at_item, guard_names, ChangesEvents}
+use Rattle.choice_step.proofs.Vocabulary.{Applies, WillBeLeft}
+use Rattle.choice_step.proofs.LoopActionLemmas.{finds_literal, goes_more, in_drop, left_behind, pass, spared_more, spared_none, wanted_from}
 use Rattle.choice_step.proofs.LoopLemmas.{role_of_leaf}
 use Rattle.choice_step.proofs.SparedNameLemmas.{spared_unread}
 use Rattle.choice_step.proofs.apply_actions.act_on.Goals as goal

@@ -1,5 +1,4 @@
-use Rattle.choice_step.proofs.Vocabulary.{List, Bool, drop, Event, guard_names, NothingClashes, Plan, Instance}
-use Rattle.choice_step.proofs.Vocabulary.{AllCanBeAsked, GoesFrom, AreSparedBehind, AreLiteralsBehind, WillBeLeft}
+use Rattle.choice_step.proofs.Vocabulary.{List, Bool, drop, Event, guard_names, NothingClashes, Plan, Instance, AllCanBeAsked, GoesFrom, AreSparedBehind, AreLiteralsBehind, WillBeLeft}
 use Rattle.choice_step.proofs.apply_actions.act_on.Given as goal
 
 abbrev pub invariant-loop-literal : goal.invariant-loop-literal

@@ -1,6 +1,5 @@
-use Rattle.choice_step.proofs.Vocabulary.{IfOk, IsTrue, sym, subst, ◌∙◌, HaveSameEvents, AreKnown}
-use Rattle.choice_step.proofs.Vocabulary.{AreTablesAtStep, GuardsWillHold, guard_names, on_ok_weaker}
-use Rattle.choice_step.proofs.Vocabulary.{IsFoundInSituation, IsMetBefore, SituationLeads, shown}
+use Rattle.choice_step.proofs.Vocabulary.{IfOk, IsTrue, sym, subst, ◌∙◌, HaveSameEvents, AreKnown, AreTablesAtStep, GuardsWillHold, guard_names, on_ok_weaker, IsFoundInSituation, IsMetBefore}
+use Rattle.choice_step.proofs.Vocabulary.{SituationLeads, shown}
 use Rattle.choice_step.proofs.choice_loop.act_from.Goals as goal
 
 pub go_on-requires : goal.go_on-requires

@@ -1,6 +1,5 @@
-use Rattle.choice_step.proofs.Vocabulary.{refl, subst, arith, IfSome, length-map, guard_names, AreSparedBehind}
-use Rattle.choice_step.proofs.Vocabulary.{StaysMet, action_found, root_literals, rule_found, situation_plans, shown}
-use Rattle.choice_step.proofs.PlaceLemmas.{led_on, more_on, none_behind, on_first, place_on, same_on}
+use Rattle.choice_step.proofs.Vocabulary.{refl, subst, arith, IfSome, length-map, guard_names, AreSparedBehind, StaysMet, action_found, root_literals, rule_found, situation_plans, shown}
+use Rattle.choice_step.proofs.PlaceLemmas.{fewer_on, led_on, more_on, none_behind, on_first, place_on, same_on}
 use Rattle.choice_step.proofs.choice_loop.act_last.Goals as goal
 
 pub act_for-requires : goal.act_for-requires
@@ -50,12 +49,16 @@ pub returns-clause-nothing : goal.returns-clause-nothing
 returns-clause-nothing c _ =
     let situation = c.args.situation.now in
     let f = c.args.found in
-    none_behind situation (shown c.args.waiting.now) c.requires.can c.args.events.now c.triggers_are_met.ensures c.act_for.new.events (rule_found f) c.in-Some.place
+    none_behind situation (shown c.args.waiting.now) c.requires.can c.args.events.now c.unwoken_is_idle.ensures.missed c.act_for.new.events (rule_found f) c.in-Some.place
     (same_on c.args.situation.now (shown c.args.waiting.now) c.requires.can c.args.events.now c.args.actions.now
     c.args.found c.args.events.now c.args.actions.now c.act_for.new.events c.act_for.new.actions
     (on_first c.args.situation.now (shown c.args.waiting.now) c.args.events.now c.args.actions.now c.args.found c.args.events.now refl c.requires.found c.requires.place) c.in_ok-reached.ensures.acts
     (subst (λ o. IfSome o (λ place. AreSparedBehind (guard_names c.args.situation.now.past.now.guards)
-    c.args.actions.now c.act_for.new.actions)) c.in-Some.is c.in_ok-reached.ensures.spared)) c.requires.last
+    c.args.actions.now c.act_for.new.actions)) c.in-Some.is c.in_ok-reached.ensures.spared))
+    (fewer_on c.args.situation.now (shown c.args.waiting.now) c.requires.can c.args.events.now c.args.actions.now
+    c.args.found c.args.events.now c.args.actions.now c.act_for.new.events c.act_for.new.actions
+    (on_first c.args.situation.now (shown c.args.waiting.now) c.args.events.now c.args.actions.now c.args.found c.args.events.now refl c.requires.found c.requires.place)
+    c.in_ok-reached.ensures.acts) c.requires.last
     (omega (arith, length-map c.args.waiting.now (λ x. x.now), c.if-place-waiting.false)) (omega (arith, c.if-place-rule.false))
     (place_on situation (shown c.args.waiting.now) c.requires.can c.args.events.now c.args.actions.now f
     c.args.events.now c.args.actions.now c.act_for.new.events c.in-Some.place

@@ -1,7 +1,6 @@
-use Rattle.choice_step.proofs.Vocabulary.{None, subst, arith, IfNone, IfSome, HasNoRepeats, guard_names}
-use Rattle.choice_step.proofs.Vocabulary.{AreSparedBehind, StaysMet, action_found, root_literals, rule_found}
-use Rattle.choice_step.proofs.Vocabulary.{SituationFinds, IsFoundInSituation, IsMetBefore, situation_plans, shown}
-use Rattle.choice_step.proofs.PlaceLemmas.{few_on, led_on, longer, more_on, on_first, place_on, same_on}
+use Rattle.choice_step.proofs.Vocabulary.{None, subst, arith, IfNone, IfSome, HasNoRepeats, guard_names, AreSparedBehind, StaysMet, action_found, root_literals, rule_found, SituationFinds}
+use Rattle.choice_step.proofs.Vocabulary.{IsFoundInSituation, IsMetBefore, situation_plans, shown}
+use Rattle.choice_step.proofs.PlaceLemmas.{few_on, fewer_on, led_on, longer, more_on, on_first, place_on, same_on}
 use Rattle.choice_step.proofs.choice_loop.go_on.Goals as goal
 
 pub loop-reached-init : goal.loop-reached-init
@@ -26,6 +25,8 @@ next_from-requires c =
       known = c.requires.known;
       same = same_on situation (shown c.args.waiting.now) can given c.args.actions.now f c.loop-reached.events c.loop-reached.actions c.act_for.new.events c.act_for.new.actions
           c.loop-reached.invariant c.in_ok-reached.ensures.acts spared;
+      fewer = fewer_on situation (shown c.args.waiting.now) can given c.args.actions.now f c.loop-reached.events c.loop-reached.actions c.act_for.new.events c.act_for.new.actions
+          c.loop-reached.invariant c.in_ok-reached.ensures.acts;
       before = place_on situation (shown c.args.waiting.now) can given c.args.actions.now f c.loop-reached.events c.loop-reached.actions c.act_for.new.events c.in-Some.place c.loop-reached.invariant
           (subst (λ o. IfSome o (λ place. StaysMet (situation_plans situation) situation.past.now situation.time
           situation.position (action_found situation.time situation.position f) (rule_found f) (root_literals f) f.place
@@ -63,6 +64,8 @@ loop-reached-preserved c =
           c.act_for.new.actions c.loop-reached.invariant c.in_ok-reached.ensures.acts
           (subst (λ o. IfSome o (λ place. AreSparedBehind (guard_names c.args.situation.now.past.now.guards)
           c.loop-reached.actions c.act_for.new.actions)) c.in-Some.is c.in_ok-reached.ensures.spared);
+      fewer = fewer_on situation (shown c.args.waiting.now) c.requires.can given c.args.actions.now c.loop-reached.first c.loop-reached.events
+          c.loop-reached.actions after c.act_for.new.actions c.loop-reached.invariant c.in_ok-reached.ensures.acts;
       found = subst (λ o. IfSome o (IsFoundInSituation situation given after)) c.in-Some-next.is c.in_ok-next.ensures.found;
       place = subst (λ o. IfSome o (λ f. IsMetBefore situation (shown c.args.waiting.now) after f.place)) c.in-Some-next.is c.in_ok-next.ensures.place;
     }

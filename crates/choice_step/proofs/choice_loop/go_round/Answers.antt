@@ -1,5 +1,4 @@
-use Rattle.choice_step.proofs.Vocabulary.{[], None, refl, sym, subst, map, append-nil, placed_guard, SleepsAt}
-use Rattle.choice_step.proofs.Vocabulary.{AllButThose, shown, IfNone, IfSome, HaveSameEvents, guard_names, rule_found}
+use Rattle.choice_step.proofs.Vocabulary.{[], None, refl, sym, subst, map, append-nil, placed_guard, SleepsAt, AllButThose, shown, IfNone, IfSome, HaveSameEvents, guard_names, rule_found}
 use Rattle.choice_step.proofs.Vocabulary.{situation_plans, SituationFinds, IsFoundInSituation, IsMetBefore, NoneIsWoken}
 use Rattle.std.specs.Prelude.{IsTrue}
 use Rattle.choice_step.proofs.RoundLemmas.{covers_sleep, rest_among}

@@ -1,5 +1,4 @@
-use Rattle.choice_step.proofs.Vocabulary.{sym, subst, IfSome, rule_found, NoneIsWoken, HaveSameEvents, AreKnown}
-use Rattle.choice_step.proofs.Vocabulary.{AreTablesAtStep, guard_names}
+use Rattle.choice_step.proofs.Vocabulary.{sym, subst, IfSome, rule_found, NoneIsWoken, HaveSameEvents, AreKnown, AreTablesAtStep, guard_names, GainsNoSuppressed, situation_plans}
 use Rattle.std.specs.Prelude.{IsTrue}
 use Rattle.choice_step.proofs.choice_loop.look.Goals as goal
 
@@ -11,6 +10,7 @@ next_from-requires c = record {
   hold = c.in_ok-tables.ensures.hold;
   known = c.in_ok-tables.ensures.known;
   same = subst (λ l. HaveSameEvents (guard_names c.args.situation.now.past.now.guards) l c.args.events.now) (sym c.in_ok-ordered.ensures) (λ event named. (λ there. there, λ there. there));
+  fewer = subst (λ l. GainsNoSuppressed (situation_plans c.args.situation.now) l c.args.events.now) (sym c.in_ok-ordered.ensures) (λ event named there. there);
   before = c.requires.start;
 }
 

@@ -1,5 +1,4 @@
-use Rattle.choice_step.proofs.Vocabulary.{sym, subst, HaveSameEvents, guard_names, situation_plans, trace_with_step}
-use Rattle.choice_step.proofs.Vocabulary.{WillBeMetBefore, WillHaveFound, root_literals, rule_found, shown}
+use Rattle.choice_step.proofs.Vocabulary.{sym, subst, HaveSameEvents, guard_names, situation_plans, trace_with_step, WillBeMetBefore, WillHaveFound, root_literals, rule_found, shown}
 use Rattle.choice_step.proofs.FirstActionLemmas.{if_some}
 use Rattle.choice_step.proofs.StepLemmas.{found_behind_past, if_none, now_of}
 use Rattle.choice_step.proofs.choice_loop.next_from.Goals as goal
@@ -10,6 +9,7 @@ first_action-requires c = record {
   guards = c.requires.are.2.0;
   ordered = subst (λ gs. HaveSameEvents (guard_names gs) c.args.ordered.now c.args.events.now) (sym c.requires.are.2.0)
       c.requires.same;
+  fewer = c.requires.fewer;
   among = c.requires.among;
 }
 

@@ -1,8 +1,5 @@
-use Rattle.choice_step.proofs.Vocabulary.{[], ◌≡◌, ◌<◌, map, subst, length, arith, ap, IfSome, AllByRecursion}
-use Rattle.choice_step.proofs.Vocabulary.{option_map, IfOk-weaker, none_in_nil, Step, IsNowOf, MissesNothing, Waiting}
-use Rattle.choice_step.proofs.Vocabulary.{all_asked, roots_from, action_found, root_literals, IsActionFor, rule_found}
-use Rattle.choice_step.proofs.Vocabulary.{IsWantedAt, NothingBefore, RootsAreMet, RootMisses, WasFound, situation_plans}
-use Rattle.choice_step.proofs.Vocabulary.{shown}
+use Rattle.choice_step.proofs.Vocabulary.{[], ◌≡◌, ◌<◌, map, subst, length, arith, ap, IfSome, AllByRecursion, option_map, IfOk-weaker, none_in_nil, Step, IsNowOf, MissesNothing, Waiting, all_asked}
+use Rattle.choice_step.proofs.Vocabulary.{roots_from, action_found, root_literals, IsActionFor, rule_found, IsWantedAt, NothingBefore, RootsAreMet, RootMisses, WasFound, situation_plans, shown}
 use Rattle.std.specs.Prelude.{Contains, List}
 use Rattle.choice_step.proofs.FirstActionLemmas.{found_behind, found_first, if_some}
 use Rattle.choice_step.proofs.first_missing.first_action.Goals as goal
@@ -11,7 +8,7 @@ pub first_waiting-requires : goal.first_waiting-requires
 first_waiting-requires c = record { can = c.requires.can; guards = c.requires.guards; among = c.requires.among }
 
 pub first_root-requires : goal.first_root-requires
-first_root-requires c = record { can = c.requires.can; guards = c.requires.guards; ordered = c.requires.ordered }
+first_root-requires c = record { can = c.requires.can; guards = c.requires.guards; ordered = c.requires.ordered; fewer = c.requires.fewer }
 
 pub returns-in-Some-clause-found : goal.returns-in-Some-clause-found
 returns-in-Some-clause-found c trace of before =

@@ -1,15 +1,9 @@
-use Rattle.choice_step.proofs.Vocabulary.{◌≡◌, ◌∙◌, ℕ, ◌+◌, ◌<◌, ◌≤◌, Bool, List, Option}
-use Rattle.choice_step.proofs.Vocabulary.{Contains, None, Some, length, map, refl, sym, subst, arith, slice_get}
-use Rattle.choice_step.proofs.Vocabulary.{AllByRecursion, eqb-false, eqb-true, length-map, same_Some, Contains-map}
-use Rattle.choice_step.proofs.Vocabulary.{AllByRecursion-contains, there_from_get, no_values, nodes, Plan}
-use Rattle.choice_step.proofs.Vocabulary.{guard_triggers, NameId, Step, HaveSameEvents, guard_names, plan_of}
-use Rattle.choice_step.proofs.Vocabulary.{TriggersAreMet, plan_at, IsNowOf, guards_at, placed_guard, Now, Missing}
-use Rattle.choice_step.proofs.Vocabulary.{IsPlain, CanAskRoot, CanAskRoots, Root, action_at, CoversMet, RootsAreMet}
-use Rattle.choice_step.proofs.Vocabulary.{first_literal, HasNoneOf, CanDecideSituation, situation_plans, Situation}
-use Rattle.choice_step.proofs.Vocabulary.{shown}
+use Rattle.choice_step.proofs.Vocabulary.{◌≡◌, ◌∙◌, ℕ, ◌+◌, ◌<◌, ◌≤◌, Bool, List, Option, Contains, None, Some, length, map, refl, sym, subst, arith, slice_get, AllByRecursion, eqb-false, eqb-true}
+use Rattle.choice_step.proofs.Vocabulary.{length-map, same_Some, Contains-map, AllByRecursion-contains, there_from_get, no_values, nodes, Plan, waking_names, NameId, Step, HaveSameEvents, guard_names}
+use Rattle.choice_step.proofs.Vocabulary.{plan_of, UnwokenMissesNothing, plan_at, IsNowOf, guards_at, placed_guard, Now, Missing, IsPlain, CanAskRoot, CanAskRoots, Root, action_at, CoversMet}
+use Rattle.choice_step.proofs.Vocabulary.{RootsAreMet, first_literal, GainsNoSuppressed, HasNoneOf, CanDecideSituation, situation_plans, Situation, shown}
 use Rattle.choice_step.proofs.WokenRuleLemmas.{all_asleep}
-use Rattle.choice_step.proofs.FirstActionLemmas.{Met, above, covers_all, drop_end, for_trace, literal_root, misses_root}
-use Rattle.choice_step.proofs.FirstActionLemmas.{no_root, none_first, one_more_root, root_first, some_first, stays_root}
+use Rattle.choice_step.proofs.FirstActionLemmas.{Met, above, covers_all, drop_end, for_trace, literal_root, misses_root, no_root, none_first, one_more_root, root_first, some_first, stays_root}
 use Rattle.choice_step.proofs.FirstActionLemmas.{wanted_root}
 use Rattle.choice_step.proofs.first_missing.first_root.Goals as goal
 
@@ -32,17 +26,18 @@ missing_of_root-requires c =
     }
 
 -- where the rules up to the next that is woken sleep, their roots miss nothing
-up_to : (plans : List Plan) (wakes : List (Option (List NameId))) (now : Now) (inserted : Bool) → TriggersAreMet → CanAskRoots (guards_at now.tables.now) plans
-    → wakes ≡ map guard_triggers plans → HaveSameEvents (guard_names now.tables.now.guards) now.ordered.now now.events.now
+up_to : (plans : List Plan) (wakes : List (Option (List NameId))) (now : Now) (inserted : Bool) → UnwokenMissesNothing → CanAskRoots (guards_at now.tables.now) plans
+    → wakes ≡ map waking_names plans → HaveSameEvents (guard_names now.tables.now.guards) now.ordered.now now.events.now
+    → GainsNoSuppressed plans now.ordered.now now.events.now
     → (from to : ℕ) → from ≤ to → ((rule : ℕ) → from ≤ rule → rule < to → HasNoneOf (slice_get wakes rule) now.ordered.now)
     → (trace : List Step) → IsNowOf now trace → RootsAreMet plans inserted trace from → RootsAreMet plans inserted trace to
-up_to plans wakes now inserted met can is ordered from to le sleep trace of before =
-    all_asleep plans inserted trace now.tables.now.guards now.ordered.now now.events.now met can of.events ordered
+up_to plans wakes now inserted unwoken can is ordered fewer from to le sleep trace of before =
+    all_asleep plans inserted trace now.tables.now.guards now.ordered.now now.events.now unwoken can of.events ordered fewer
     from to le (λ r low high. subst (λ l. HasNoneOf (slice_get l r) now.ordered.now) is (sleep r low high)) before
 
 pub loop-rule-init : goal.loop-rule-init
 loop-rule-init c =
-    up_to (situation_plans c.args.situation.now) c.args.situation.now.wakes.now c.args.now.now c.args.situation.now.inserted c.triggers_are_met.ensures (roots_asked c.args.situation.now c.args.now.now c.requires.can c.requires.guards) c.requires.can.wakes c.requires.ordered
+    up_to (situation_plans c.args.situation.now) c.args.situation.now.wakes.now c.args.now.now c.args.situation.now.inserted c.unwoken_is_idle.ensures.missed (roots_asked c.args.situation.now c.args.now.now c.requires.can c.requires.guards) c.requires.can.wakes c.requires.ordered c.requires.fewer
     c.args.from.rules c.next_awake-rule.result c.next_awake-rule.ensures.behind c.next_awake-rule.ensures.asleep
 
 pub loop-rule-preserved : goal.loop-rule-preserved
@@ -56,7 +51,7 @@ loop-rule-preserved c trace of before =
     (plan_at c.args.situation.now.plans.now c.loop-rule.rule p c.loop-rule-test.true c.index-plans-rule.is)
     (c.loop-rule.invariant trace of before)
     (stays_root plans c.args.situation.now.inserted trace c.loop-rule.rule (plan_of p) no_values (slice_get c.in_ok-literals.literals.items 0) refl none (c.in_ok-literals.ensures.first trace of)) in
-    up_to plans c.args.situation.now.wakes.now c.args.now.now c.args.situation.now.inserted c.triggers_are_met.ensures (roots_asked c.args.situation.now c.args.now.now c.requires.can c.requires.guards) c.requires.can.wakes c.requires.ordered
+    up_to plans c.args.situation.now.wakes.now c.args.now.now c.args.situation.now.inserted c.unwoken_is_idle.ensures.missed (roots_asked c.args.situation.now c.args.now.now c.requires.can c.requires.guards) c.requires.can.wakes c.requires.ordered c.requires.fewer
     (c.loop-rule.rule + 1) c.next_awake-rule-in-loop-rule.result c.next_awake-rule-in-loop-rule.ensures.behind c.next_awake-rule-in-loop-rule.ensures.asleep trace of more
 
 pub returns-then-not-is_empty-clause-found : goal.returns-then-not-is_empty-clause-found

@@ -1,10 +1,6 @@
-use Rattle.choice_step.proofs.Vocabulary.{◌≡◌, ◌+◌, ◌<◌, Contains, ap, arith, drop, length, map, subst}
-use Rattle.choice_step.proofs.Vocabulary.{sym, IfSome, AllByRecursion, length-map, AllByRecursion-contains}
-use Rattle.choice_step.proofs.Vocabulary.{drop_at_item, shown, guards_at, placed_guard, CanAskOf, IsWantedOf, Waiting}
-use Rattle.choice_step.proofs.Vocabulary.{action_at, CoversMet, first_literal, CanDecideSituation, situation_plans}
-use Rattle.choice_step.proofs.Vocabulary.{Situation, Now}
-use Rattle.choice_step.proofs.FirstActionLemmas.{Met, covers_first, covers_none, covers_on, drop_end, for_trace}
-use Rattle.choice_step.proofs.FirstActionLemmas.{misses_waiting, shown_at, waits, wanted_waiting}
+use Rattle.choice_step.proofs.Vocabulary.{◌≡◌, ◌+◌, ◌<◌, Contains, ap, arith, drop, length, map, subst, sym, IfSome, AllByRecursion, length-map, AllByRecursion-contains, drop_at_item, shown}
+use Rattle.choice_step.proofs.Vocabulary.{guards_at, placed_guard, CanAskOf, IsWantedOf, Waiting, action_at, CoversMet, first_literal, CanDecideSituation, situation_plans, Situation, Now}
+use Rattle.choice_step.proofs.FirstActionLemmas.{Met, covers_first, covers_none, covers_on, drop_end, for_trace, misses_waiting, shown_at, waits, wanted_waiting}
 use Rattle.choice_step.proofs.first_missing.first_waiting.Goals as goal
 
 -- the instances can be asked by the guards of the tables, which are those of the past state

@@ -1,5 +1,4 @@
-use Rattle.choice_step.proofs.Vocabulary.{List, sym, subst, slice_get, IfOk-weaker, no_values, Step, plan_of}
-use Rattle.choice_step.proofs.Vocabulary.{CanAskPlan, IsNowOf, guards_at, Missing, FirstMissing}
+use Rattle.choice_step.proofs.Vocabulary.{List, sym, subst, slice_get, IfOk-weaker, no_values, Step, plan_of, CanAskPlan, IsNowOf, guards_at, Missing, FirstMissing}
 use Rattle.choice_step.proofs.FirstActionLemmas.{first_of_all}
 use Rattle.choice_step.proofs.first_missing.missing_of_root.Goals as goal
 

@@ -1,5 +1,4 @@
-use Rattle.choice_step.proofs.Vocabulary.{◌≡◌, ◌≤◌, ℕ, List, All, Contains, take, subst, arith, take_all}
-use Rattle.choice_step.proofs.Vocabulary.{All-contains, All-more, All-weaker, Event, Woken}
+use Rattle.choice_step.proofs.Vocabulary.{◌≡◌, ◌≤◌, ℕ, List, All, Contains, take, subst, arith, take_all, All-contains, All-more, All-weaker, Event, Woken}
 use Rattle.choice_step.proofs.woken_rules.first_named.Goals as goal
 
 -- the number is at most each rule from one on that the event wakes

@@ -1,7 +1,5 @@
-use Rattle.choice_step.proofs.Vocabulary.{◌≤◌, ℕ, All, get_or, take, subst, arith, take_all, All-contains}
-use Rattle.choice_step.proofs.Vocabulary.{All-more, All-weaker}
-use Rattle.choice_step.proofs.woken_rules.least_from.Goals.{then-rule-from-via-then-rule-from}
-use Rattle.choice_step.proofs.woken_rules.least_from.Goals.{then-rule-from-via-else-rule-from+then-least-rule}
+use Rattle.choice_step.proofs.Vocabulary.{◌≤◌, ℕ, All, get_or, take, subst, arith, take_all, All-contains, All-more, All-weaker}
+use Rattle.choice_step.proofs.woken_rules.least_from.Goals.{then-rule-from-via-then-rule-from, then-rule-from-via-else-rule-from+then-least-rule}
 use Rattle.choice_step.proofs.woken_rules.least_from.Goals as goal
 
 -- the number is at most the rule, where that is one from the first on

@@ -1,7 +1,5 @@
-use Rattle.choice_step.proofs.Vocabulary.{◌≤◌, ℕ, All, get_or, take, subst, arith, take_all, All-contains}
-use Rattle.choice_step.proofs.Vocabulary.{All-more, All-weaker, Woken}
-use Rattle.choice_step.proofs.woken_rules.least_woken.Goals.{then-entry-from-via-then-entry-from}
-use Rattle.choice_step.proofs.woken_rules.least_woken.Goals.{then-entry-from-via-else-entry-from+then-least-entry}
+use Rattle.choice_step.proofs.Vocabulary.{◌≤◌, ℕ, All, get_or, take, subst, arith, take_all, All-contains, All-more, All-weaker, Woken}
+use Rattle.choice_step.proofs.woken_rules.least_woken.Goals.{then-entry-from-via-then-entry-from, then-entry-from-via-else-entry-from+then-least-entry}
 use Rattle.choice_step.proofs.woken_rules.least_woken.Goals as goal
 
 -- the number is at most the rule, where that is one from the first on

@@ -1,8 +1,5 @@
-use Rattle.choice_step.proofs.Vocabulary.{rules, ◌≡◌, ap, sym, subst, true, false, Contains, length, take, drop}
-use Rattle.choice_step.proofs.Vocabulary.{◌-◌, nat_cmp_total, nat_cmp-IsAntisymmetric, IsPartitionPoint}
-use Rattle.choice_step.proofs.Vocabulary.{IsPartitionedBy, is_lt, is_le, nat_cmp, take_rest}
-use Rattle.choice_step.proofs.Vocabulary.{IsPartitionPoint-from_clause, below_first, up_to_last, tied_between}
-use Rattle.choice_step.proofs.Vocabulary.{woken_number}
+use Rattle.choice_step.proofs.Vocabulary.{rules, ◌≡◌, ap, sym, subst, true, false, Contains, length, take, drop, ◌-◌, nat_cmp_total, nat_cmp-IsAntisymmetric, IsPartitionPoint, IsPartitionedBy, is_lt}
+use Rattle.choice_step.proofs.Vocabulary.{is_le, nat_cmp, take_rest, IsPartitionPoint-from_clause, below_first, up_to_last, tied_between, woken_number}
 use Rattle.choice_step.proofs.woken_rules.of_name.Goals as goal
 
 pub returns : goal.returns

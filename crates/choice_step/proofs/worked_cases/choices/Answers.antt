@@ -1,5 +1,4 @@
-use Rattle.choice_step.proofs.Vocabulary.{rules, [], ◌∷◌, refl, inl, inr, event_p, event_q, cause_literal}
-use Rattle.choice_step.proofs.Vocabulary.{suppress_literal, p_is_there, q_is_not, Root}
+use Rattle.choice_step.proofs.Vocabulary.{rules, [], ◌∷◌, refl, inl, inr, event_p, event_q, cause_literal, suppress_literal, p_is_there, q_is_not, Root}
 use Rattle.choice_step.proofs.worked_cases.choices.Goals as goal
 
 pub returns-clause-caused_last : goal.returns-clause-caused_last

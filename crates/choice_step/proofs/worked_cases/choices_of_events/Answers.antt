@@ -1,6 +1,5 @@
-use Rattle.choice_step.proofs.Vocabulary.{rules, ◌≡◌, [], ◌∷◌, false, length, refl, ap, inl, inr, lit<}
-use Rattle.choice_step.proofs.Vocabulary.{arith, none_in_nil, event_p, event_q, cause_literal, suppress_literal}
-use Rattle.choice_step.proofs.Vocabulary.{event_r, for_root, p_is_there, p_where_no_q, q_is_not, Root}
+use Rattle.choice_step.proofs.Vocabulary.{rules, ◌≡◌, [], ◌∷◌, false, length, refl, ap, inl, inr, lit<, arith, none_in_nil, event_p, event_q, cause_literal, suppress_literal, event_r, for_root}
+use Rattle.choice_step.proofs.Vocabulary.{p_is_there, p_where_no_q, q_is_not, Root}
 use Rattle.choice_step.proofs.CaseLemmas.{no_q, no_q_left, no_r}
 use Rattle.obligations.specs.declared.literals.LiteralKind.TheVariants as kind
 use Rattle.choice_step.proofs.worked_cases.choices_of_events.Goals as goal

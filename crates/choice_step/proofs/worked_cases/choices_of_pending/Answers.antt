@@ -1,6 +1,5 @@
-use Rattle.choice_step.proofs.Vocabulary.{rules, ◌≡◌, [], ◌∷◌, true, length, refl, ap, inl, inr, lit≤}
-use Rattle.choice_step.proofs.Vocabulary.{arith, event_p, event_q, cause_literal, always_to_10, due_at_5, for_due}
-use Rattle.choice_step.proofs.Vocabulary.{for_second_at, p_by_5, q_always, Waiting}
+use Rattle.choice_step.proofs.Vocabulary.{rules, ◌≡◌, [], ◌∷◌, true, length, refl, ap, inl, inr, lit≤, arith, event_p, event_q, cause_literal, always_to_10, due_at_5, for_due, for_second_at, p_by_5}
+use Rattle.choice_step.proofs.Vocabulary.{q_always, Waiting}
 use Rattle.choice_step.proofs.CaseLemmas.{no_q}
 use Rattle.choice_step.proofs.worked_cases.choices_of_pending.Goals as goal
 

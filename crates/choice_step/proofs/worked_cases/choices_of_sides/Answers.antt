@@ -1,6 +1,5 @@
-use Rattle.choice_step.proofs.Vocabulary.{◌≡◌, List, [], ◌∷◌, Contains, false, length, refl, ap, inl, inr}
-use Rattle.choice_step.proofs.Vocabulary.{lit<, arith, none_in_nil, event_p, event_q, Either, cause_literal, Action}
-use Rattle.choice_step.proofs.Vocabulary.{event_r, for_leaf, p_and_r, p_up_to_5, Root}
+use Rattle.choice_step.proofs.Vocabulary.{◌≡◌, List, [], ◌∷◌, Contains, false, length, refl, ap, inl, inr, lit<, arith, none_in_nil, event_p, event_q, Either, cause_literal, Action, event_r, for_leaf}
+use Rattle.choice_step.proofs.Vocabulary.{p_and_r, p_up_to_5, Root}
 use Rattle.choice_step.proofs.CaseLemmas.{absent, no_p, q_not_r}
 use Rattle.obligations.specs.declared.literals.LiteralKind.TheVariants as kind
 use Rattle.choice_step.proofs.worked_cases.choices_of_sides.Goals as goal

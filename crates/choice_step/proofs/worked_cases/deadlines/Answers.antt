@@ -1,9 +1,6 @@
-use Rattle.choice_step.proofs.Vocabulary.{rules, ◌≡◌, ℕ, zero, suc, List, [], ◌∷◌, Contains, Some, refl}
-use Rattle.choice_step.proofs.Vocabulary.{sym, subst, ap, length, slice_index_or, inl, inr, lit<, lit≤, arith}
-use Rattle.choice_step.proofs.Vocabulary.{⊎_elim, event_p, event_q, Record, StepRecord, Tick, System, Inserted}
-use Rattle.choice_step.proofs.Vocabulary.{first_or_later, none_in_nil, cause_literal, HasDeadline, NoneIsOver, Pend}
-use Rattle.choice_step.proofs.Vocabulary.{Instance, due_at_5, empty_at_0, p_by_5, q_at_7, served_at_5, Waiting, GoesOut}
-use Rattle.choice_step.proofs.Vocabulary.{InsertsSteps, IsLeastDeadline, ActedStep}
+use Rattle.choice_step.proofs.Vocabulary.{rules, ◌≡◌, ℕ, zero, suc, List, [], ◌∷◌, Contains, Some, refl, sym, subst, ap, length, slice_index_or, inl, inr, lit<, lit≤, arith, ⊎_elim, event_p, event_q}
+use Rattle.choice_step.proofs.Vocabulary.{Record, StepRecord, Tick, System, Inserted, first_or_later, none_in_nil, cause_literal, HasDeadline, NoneIsOver, Pend, Instance, due_at_5, empty_at_0, p_by_5}
+use Rattle.choice_step.proofs.Vocabulary.{q_at_7, served_at_5, Waiting, GoesOut, InsertsSteps, IsLeastDeadline, ActedStep}
 use Rattle.choice_step.proofs.worked_cases.deadlines.Goals as goal
 
 due : Pend (p_by_5 ∷ []) (empty_at_0.step ∷ []) (due_at_5 ∷ [])

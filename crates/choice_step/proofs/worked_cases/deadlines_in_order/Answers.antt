@@ -1,10 +1,6 @@
-use Rattle.choice_step.proofs.Vocabulary.{rules, ◌≡◌, ◌≤◌, zero, suc, List, [], ◌∷◌, Some, refl, sym}
-use Rattle.choice_step.proofs.Vocabulary.{subst, ap, length, slice_index_or, inl, inr, lit<, lit≤, arith, ⊎_elim}
-use Rattle.choice_step.proofs.Vocabulary.{first_or_later, none_in_nil, no_values, event_p, event_q, Record, StepRecord}
-use Rattle.choice_step.proofs.Vocabulary.{Tick, System, Inserted, cause_literal, HasDeadline, NoneIsOver, Pend}
-use Rattle.choice_step.proofs.Vocabulary.{Instance, due_at_5, empty_at_0, p_by_5_and_q_by_3, p_at_5, q_at_3}
-use Rattle.choice_step.proofs.Vocabulary.{second_due_at_3, Waiting, ActedStep, GoesOut, InsertsSteps, IsLeastDeadline}
-use Rattle.choice_step.proofs.Vocabulary.{NoneIsPassed}
+use Rattle.choice_step.proofs.Vocabulary.{rules, ◌≡◌, ◌≤◌, zero, suc, List, [], ◌∷◌, Some, refl, sym, subst, ap, length, slice_index_or, inl, inr, lit<, lit≤, arith, ⊎_elim, first_or_later}
+use Rattle.choice_step.proofs.Vocabulary.{none_in_nil, no_values, event_p, event_q, Record, StepRecord, Tick, System, Inserted, cause_literal, HasDeadline, NoneIsOver, Pend, Instance, due_at_5}
+use Rattle.choice_step.proofs.Vocabulary.{empty_at_0, p_by_5_and_q_by_3, p_at_5, q_at_3, second_due_at_3, Waiting, ActedStep, GoesOut, InsertsSteps, IsLeastDeadline, NoneIsPassed}
 use Rattle.choice_step.proofs.CaseLemmas.{no_p, no_q}
 use Rattle.choice_step.proofs.worked_cases.deadlines_in_order.Goals as goal
 

@@ -1,9 +1,6 @@
-use Rattle.choice_step.proofs.Vocabulary.{rules, ◌≡◌, ℕ, zero, suc, List, [], ◌∷◌, Some, refl, sym, subst}
-use Rattle.choice_step.proofs.Vocabulary.{ap, length, inl, inr, lit<, lit≤, arith, ⊎_elim, first_or_later}
-use Rattle.choice_step.proofs.Vocabulary.{none_in_nil, no_values, event_p, event_q, Record, StepRecord, Tick, System}
-use Rattle.choice_step.proofs.Vocabulary.{Inserted, cause_literal, HasDeadline, NoneIsOver, Pend, Instance, due_at_5}
-use Rattle.choice_step.proofs.Vocabulary.{empty_at_0, next_due_at_15, p_with_next, q_at_15, served_at_5, Waiting}
-use Rattle.choice_step.proofs.Vocabulary.{GoesOut, InsertsSteps, IsLeastDeadline, NoneIsPassed}
+use Rattle.choice_step.proofs.Vocabulary.{rules, ◌≡◌, ℕ, zero, suc, List, [], ◌∷◌, Some, refl, sym, subst, ap, length, inl, inr, lit<, lit≤, arith, ⊎_elim, first_or_later, none_in_nil, no_values}
+use Rattle.choice_step.proofs.Vocabulary.{event_p, event_q, Record, StepRecord, Tick, System, Inserted, cause_literal, HasDeadline, NoneIsOver, Pend, Instance, due_at_5, empty_at_0, next_due_at_15}
+use Rattle.choice_step.proofs.Vocabulary.{p_with_next, q_at_15, served_at_5, Waiting, GoesOut, InsertsSteps, IsLeastDeadline, NoneIsPassed}
 use Rattle.choice_step.proofs.CaseLemmas.{no_p}
 use Rattle.choice_step.proofs.worked_cases.deadlines_of_inserted.Goals as goal
 

@@ -1,6 +1,4 @@
-use Rattle.choice_step.proofs.Vocabulary.{◌≡◌, [], ◌∷◌, false, length, refl, ap, inl, inr, lit<, arith}
-use Rattle.choice_step.proofs.Vocabulary.{none_in_nil, each_q, p_of_1, q_of_1, cause_literal, for_leaf, for_root}
-use Rattle.choice_step.proofs.Vocabulary.{p_of_1_is_there, Root}
+use Rattle.choice_step.proofs.Vocabulary.{◌≡◌, [], ◌∷◌, false, length, refl, ap, inl, inr, lit<, arith, none_in_nil, each_q, p_of_1, q_of_1, cause_literal, for_leaf, for_root, p_of_1_is_there, Root}
 use Rattle.obligations.specs.declared.literals.LiteralKind.TheVariants as kind
 use Rattle.choice_step.proofs.worked_cases.fed_choices.Goals as goal
 

@@ -1,7 +1,5 @@
-use Rattle.choice_step.proofs.Vocabulary.{◌≡◌, Bool, true, ◌&&◌, IsTrue, List, [], ◌∷◌, Option, None}
-use Rattle.choice_step.proofs.Vocabulary.{Some, refl, ap, subst, list_all, false≢true, none-some, same_Some, here}
-use Rattle.choice_step.proofs.Vocabulary.{no_values, onto_values, value_at, with_values, value_at-insert, Value, Text}
-use Rattle.choice_step.proofs.Vocabulary.{variable_x, is_number}
+use Rattle.choice_step.proofs.Vocabulary.{◌≡◌, Bool, true, ◌&&◌, IsTrue, List, [], ◌∷◌, Option, None, Some, refl, ap, subst, list_all, false≢true, none-some, same_Some, here, no_values, onto_values}
+use Rattle.choice_step.proofs.Vocabulary.{value_at, with_values, value_at-insert, Value, Text, variable_x, is_number}
 use Rattle.choice_step.proofs.worked_cases.fitting_causes.Goals as goal
 
 pub returns-clause-of_numbers : goal.returns-clause-of_numbers

@@ -1,7 +1,5 @@
-use Rattle.choice_step.proofs.Vocabulary.{rules, ◌≡◌, List, [], ◌∷◌, true, refl, ap, inl, inr, arith}
-use Rattle.choice_step.proofs.Vocabulary.{slice_index_or, event_p, event_q, name_q, cause_literal, Action, due_at_5}
-use Rattle.choice_step.proofs.Vocabulary.{for_due, for_second_at, p_by_5, q_by_5, second_due_at_5, Root, Waiting}
-use Rattle.choice_step.proofs.Vocabulary.{CausePlan}
+use Rattle.choice_step.proofs.Vocabulary.{rules, ◌≡◌, List, [], ◌∷◌, true, refl, ap, inl, inr, arith, slice_index_or, event_p, event_q, name_q, cause_literal, Action, due_at_5, for_due, for_second_at}
+use Rattle.choice_step.proofs.Vocabulary.{p_by_5, q_by_5, second_due_at_5, Root, Waiting, CausePlan}
 use Rattle.choice_step.proofs.worked_cases.forced_choices.Goals as goal
 
 pub returns-clause-forced : goal.returns-clause-forced

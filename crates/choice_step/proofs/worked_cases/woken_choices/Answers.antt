@@ -1,6 +1,5 @@
-use Rattle.choice_step.proofs.Vocabulary.{◌≡◌, List, [], ◌∷◌, false, length, refl, ap, inl, inr, lit<}
-use Rattle.choice_step.proofs.Vocabulary.{arith, slice_index_or, none_in_nil, event_p, event_q, cause_literal, Action}
-use Rattle.choice_step.proofs.Vocabulary.{event_r, for_leaf, for_root, p_where_q, q_is_there, r_is_there, Root}
+use Rattle.choice_step.proofs.Vocabulary.{◌≡◌, List, [], ◌∷◌, false, length, refl, ap, inl, inr, lit<, arith, slice_index_or, none_in_nil, event_p, event_q, cause_literal, Action, event_r, for_leaf}
+use Rattle.choice_step.proofs.Vocabulary.{for_root, p_where_q, q_is_there, r_is_there, Root}
 use Rattle.choice_step.proofs.CaseLemmas.{no_p, no_r}
 use Rattle.obligations.specs.declared.literals.LiteralKind.TheVariants as kind
 use Rattle.choice_step.proofs.worked_cases.woken_choices.Goals as goal

@@ -1,5 +1,4 @@
-use Rattle.enf_data.proofs.Vocabulary.{Contains, get_or, subst, sym, take, true≢false, ◌∙◌, take_more}
-use Rattle.enf_data.proofs.Vocabulary.{HasNoRepeats}
+use Rattle.enf_data.proofs.Vocabulary.{Contains, get_or, subst, sym, take, true≢false, ◌∙◌, take_more, HasNoRepeats}
 use Rattle.enf_data.proofs.Lists.{HasNoRepeats-push}
 use Rattle.enf_data.proofs.TableKeys.{not_before}
 use Rattle.enf_data.proofs.event_sets.are_distinct.Goals as goal

@@ -1,5 +1,4 @@
-use Rattle.enf_data.proofs.Vocabulary.{◌++◌, ◌∷◌, [], Contains, ap, subst, sym, true≢false, ◌∙◌}
-use Rattle.enf_data.proofs.Vocabulary.{HasNoRepeats}
+use Rattle.enf_data.proofs.Vocabulary.{◌++◌, ◌∷◌, [], Contains, ap, subst, sym, true≢false, ◌∙◌, HasNoRepeats}
 use Rattle.enf_data.proofs.TableKeys.{stays}
 use Rattle.enf_data.proofs.Lists.{HasNoRepeats-push}
 use Rattle.enf_data.proofs.event_sets.insert_searched.Goals as goal

@@ -1,5 +1,4 @@
-use Rattle.enf_data.proofs.Vocabulary.{⊎_elim, Contains, Some, ap, arith, get_or, subst, sym, take, true≢false}
-use Rattle.enf_data.proofs.Vocabulary.{◌∙◌, take_more, Contains-push_cases, slice_get-get_or}
+use Rattle.enf_data.proofs.Vocabulary.{⊎_elim, Contains, Some, ap, arith, get_or, subst, sym, take, true≢false, ◌∙◌, take_more, Contains-push_cases, slice_get-get_or}
 use Rattle.std.proofs.lemmas.List.{take_all}
 use Rattle.enf_data.proofs.EventEquality.{derived_event_eq-Decides}
 use Rattle.enf_data.proofs.event_sets.place_of.Goals as goal

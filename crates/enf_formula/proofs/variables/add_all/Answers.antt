@@ -1,5 +1,4 @@
-use Rattle.enf_formula.proofs.Vocabulary.{◌≡◌, ◌+◌, ◌∷◌, [], ◌++◌, List, take, sym, ap, subst}
-use Rattle.enf_formula.proofs.Vocabulary.{◌∙◌, Contains, take_all, take_more, Term, Var, AddsVariables}
+use Rattle.enf_formula.proofs.Vocabulary.{◌≡◌, ◌+◌, ◌∷◌, [], ◌++◌, List, take, sym, ap, subst, ◌∙◌, Contains, take_all, take_more, Term, Var, AddsVariables}
 use Rattle.enf_formula.proofs.Gathering.{adds_term}
 use Rattle.enf_formula.proofs.variables.add_all.Goals as goal
 

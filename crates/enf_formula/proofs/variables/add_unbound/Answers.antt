@@ -1,5 +1,4 @@
-use Rattle.enf_formula.proofs.Vocabulary.{List, get_or, take, sym, subst, Contains, true≢false, ◌∙◌, take_all}
-use Rattle.enf_formula.proofs.Vocabulary.{take_more, VarId, AddsVariables}
+use Rattle.enf_formula.proofs.Vocabulary.{List, get_or, take, sym, subst, Contains, true≢false, ◌∙◌, take_all, take_more, VarId, AddsVariables}
 use Rattle.enf_formula.proofs.Gathering.{IsUnbound, adds_bound, adds_unbound, bound_decides}
 use Rattle.enf_formula.proofs.variables.add_unbound.Goals as goal
 

@@ -1,8 +1,6 @@
-use Rattle.enf_formula.proofs.Vocabulary.{◌≡◌, ℕ, zero, suc, pos, List, [], ◌∷◌, length, Contains, Some}
-use Rattle.enf_formula.proofs.Vocabulary.{arith, refl, sym, ap, subst, slice_index_or, lit<, step_at, Step, Valuation}
-use Rattle.enf_formula.proofs.Vocabulary.{no_values, with_values, onto_values, value_at-insert, NameId, Var, Value, Num}
-use Rattle.enf_formula.proofs.Vocabulary.{Text, p_1_q_1, p_1_q_1_p_a, p_1_q_2, name_p, name_q, event_p_of, event_q_of}
-use Rattle.enf_formula.proofs.Vocabulary.{formula_p_x, formula_q_x, variable_x, Atom, Sat, IsEventAmong}
+use Rattle.enf_formula.proofs.Vocabulary.{◌≡◌, ℕ, zero, suc, pos, List, [], ◌∷◌, length, Contains, Some, arith, refl, sym, ap, subst, slice_index_or, lit<, step_at, Step, Valuation, no_values}
+use Rattle.enf_formula.proofs.Vocabulary.{with_values, onto_values, value_at-insert, NameId, Var, Value, Num, Text, p_1_q_1, p_1_q_1_p_a, p_1_q_2, name_p, name_q, event_p_of, event_q_of, formula_p_x}
+use Rattle.enf_formula.proofs.Vocabulary.{formula_q_x, variable_x, Atom, Sat, IsEventAmong}
 use Rattle.enf_formula.proofs.Stability.{absent}
 use Rattle.enf_formula.proofs.worked_cases.first_order.Goals as goal
 

@@ -1,6 +1,4 @@
-use Rattle.enf_formula.proofs.Vocabulary.{ℕ, suc, zero, ◌≤◌, ◌<◌, [], ◌∷◌, Contains, arith, refl}
-use Rattle.enf_formula.proofs.Vocabulary.{lit<, lit≤, step_at, IsIn, interval_between, two_steps, broken_before}
-use Rattle.enf_formula.proofs.Vocabulary.{event_p, event_q, elapsed}
+use Rattle.enf_formula.proofs.Vocabulary.{ℕ, suc, zero, ◌≤◌, ◌<◌, [], ◌∷◌, Contains, arith, refl, lit<, lit≤, step_at, IsIn, interval_between, two_steps, broken_before, event_p, event_q, elapsed}
 use Rattle.enf_formula.proofs.Stability.{absent}
 use Rattle.enf_formula.proofs.worked_cases.future.Goals as goal
 

@@ -1,5 +1,4 @@
-use Rattle.enf_formula.proofs.Vocabulary.{ℕ, suc, zero, ◌≤◌, [], ◌∷◌, Contains, arith, refl, lit<, lit≤}
-use Rattle.enf_formula.proofs.Vocabulary.{step_at, IsIn, interval_between, two_steps, event_p, event_q, elapsed}
+use Rattle.enf_formula.proofs.Vocabulary.{ℕ, suc, zero, ◌≤◌, [], ◌∷◌, Contains, arith, refl, lit<, lit≤, step_at, IsIn, interval_between, two_steps, event_p, event_q, elapsed}
 use Rattle.enf_formula.proofs.Stability.{absent}
 use Rattle.enf_formula.proofs.worked_cases.past.Goals as goal
 

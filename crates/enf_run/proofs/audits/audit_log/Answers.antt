@@ -1,5 +1,4 @@
-use Rattle.enf_run.proofs.Vocabulary.{◌∙◌, [], List, length, ap, sym, subst, refl, arith, err_from_is_err_and}
-use Rattle.enf_run.proofs.Vocabulary.{Reader, TraceLog, NameEntry, AnswersAuditTurn, reads_in, recorded, records_of}
+use Rattle.enf_run.proofs.Vocabulary.{◌∙◌, [], List, length, ap, sym, subst, refl, arith, err_from_is_err_and, Reader, TraceLog, NameEntry, AnswersAuditTurn, reads_in, recorded, records_of}
 use Rattle.std.specs.Prelude.{None, Some}
 use Rattle.enf_run.proofs.AuditLemmas.{audit_lost, audited_none, goes_on, has_audited, lost_at_once}
 use Rattle.enf_run.proofs.audits.audit_log.Goals as goal

@@ -1,5 +1,4 @@
-use Rattle.enf_run.proofs.Vocabulary.{◌≡◌, ◌+◌, ◌*◌, ◌-◌, List, ℕ, length, TraceLog, reads_in}
-use Rattle.enf_run.proofs.Vocabulary.{most_log_bytes, most_read_bytes}
+use Rattle.enf_run.proofs.Vocabulary.{◌≡◌, ◌+◌, ◌*◌, ◌-◌, List, ℕ, length, TraceLog, reads_in, most_log_bytes, most_read_bytes}
 use Rattle.enf_run.proofs.AuditLemmas.{IsAudited, IsWithin}
 use Rattle.enf_run.proofs.audits.audit_log.Given as goal
 

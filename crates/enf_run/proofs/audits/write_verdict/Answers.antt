@@ -1,5 +1,4 @@
-use Rattle.enf_run.proofs.Vocabulary.{List, ℕ, ◌++◌, ◌∙◌, ap, codes, decimal, sym, subst, rule_name}
-use Rattle.enf_run.proofs.Vocabulary.{policy_rules_of, verdict_line, WritesText}
+use Rattle.enf_run.proofs.Vocabulary.{List, ℕ, ◌++◌, ◌∙◌, ap, codes, decimal, sym, subst, rule_name, policy_rules_of, verdict_line, WritesText}
 use Rattle.std.proofs.Common.{slice_get}
 use Rattle.enf_run.proofs.PieceLemmas.{five_pieces}
 use Rattle.enf_run.proofs.audits.write_verdict.Goals as goal

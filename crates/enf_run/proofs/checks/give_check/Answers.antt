@@ -1,5 +1,4 @@
-use Rattle.enf_run.proofs.Vocabulary.{List, ℕ, Bool, ◌++◌, Result, Err, Ok, map, subst, err_from_is_err_and}
-use Rattle.enf_run.proofs.Vocabulary.{rule_of, horizon_line, mark_line, role_lines, rule_lines, WritesText, Cut, Stream}
+use Rattle.enf_run.proofs.Vocabulary.{List, ℕ, Bool, ◌++◌, Result, Err, Ok, map, subst, err_from_is_err_and, rule_of, horizon_line, mark_line, role_lines, rule_lines, WritesText, Cut, Stream}
 use Rattle.enf_run.proofs.TextLemmas.{Broken, Whole, cut_first, then_cut, then_whole}
 use Rattle.enf_run.proofs.checks.give_check.Goals as goal
 

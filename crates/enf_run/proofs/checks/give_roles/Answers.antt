@@ -1,6 +1,5 @@
-use Rattle.enf_run.proofs.Vocabulary.{List, ℕ, ◌≡◌, ◌<◌, ap, arith, get_or, length, subst, flat_map}
-use Rattle.enf_run.proofs.Vocabulary.{range_with_len, take_all, get_or-range_with_len, length-range_with_len}
-use Rattle.enf_run.proofs.Vocabulary.{err_from_is_err_and, role_in, Role, numbered_role_line, role_line}
+use Rattle.enf_run.proofs.Vocabulary.{List, ℕ, ◌≡◌, ◌<◌, ap, arith, get_or, length, subst, flat_map, range_with_len, take_all, get_or-range_with_len, length-range_with_len, err_from_is_err_and}
+use Rattle.enf_run.proofs.Vocabulary.{role_in, Role, numbered_role_line, role_line}
 use Rattle.enf_run.proofs.TextLemmas.{Broken, Whole, piece_cut, piece_whole, whole_none}
 use Rattle.enf_run.proofs.checks.give_roles.Goals as goal
 

@@ -1,5 +1,4 @@
-use Rattle.enf_run.proofs.Vocabulary.{List, ℕ, ◌≡◌, ◌++◌, ◌∙◌, ap, codes, subst, err_from_is_err_and}
-use Rattle.enf_run.proofs.Vocabulary.{rule_text, rule_of, rule_line, cut_after}
+use Rattle.enf_run.proofs.Vocabulary.{List, ℕ, ◌≡◌, ◌++◌, ◌∙◌, ap, codes, subst, err_from_is_err_and, rule_text, rule_of, rule_line, cut_after}
 use Rattle.enf_run.proofs.TextLemmas.{Broken, written_cut}
 use Rattle.enf_run.proofs.checks.give_rule.Goals as goal
 

@@ -1,5 +1,4 @@
-use Rattle.enf_run.proofs.Vocabulary.{List, ℕ, ◌∙◌, ap, subst, sym, flat_map, take_all, flat_map-map}
-use Rattle.enf_run.proofs.Vocabulary.{err_from_is_err_and, rule_of, rule_line}
+use Rattle.enf_run.proofs.Vocabulary.{List, ℕ, ◌∙◌, ap, subst, sym, flat_map, take_all, flat_map-map, err_from_is_err_and, rule_of, rule_line}
 use Rattle.formula_reader.specs.declared.policies.Rule.{Rule}
 use Rattle.enf_run.proofs.TextLemmas.{Broken, Whole, piece_cut, piece_whole, whole_none}
 use Rattle.enf_run.proofs.checks.give_rules.Goals as goal

@@ -1,8 +1,6 @@
 -- The sample policy is read and accepted.
-use Rattle.enf_run.proofs.Vocabulary.{◌≡◌, List, ℕ, Result, Ok, Err, ap, refl, subst, sym, ◌∙◌}
-use Rattle.enf_run.proofs.Vocabulary.{true≢false, Formula, RefusesPolicy, ArePlanned, typed_of, CallGivesPolicy}
-use Rattle.enf_run.proofs.Vocabulary.{IsPolicyAnswer, Rule, policy_rules_of, policy_text, sample_entries, sample_rules}
-use Rattle.enf_run.proofs.Vocabulary.{NameEntry, all_formulas}
+use Rattle.enf_run.proofs.Vocabulary.{◌≡◌, List, ℕ, Result, Ok, Err, ap, refl, subst, sym, ◌∙◌, true≢false, Formula, RefusesPolicy, ArePlanned, typed_of, CallGivesPolicy, IsPolicyAnswer, Rule}
+use Rattle.enf_run.proofs.Vocabulary.{policy_rules_of, policy_text, sample_entries, sample_rules, NameEntry, all_formulas}
 use Rattle.formula_reader.specs.declared.policies.PolicyRefusal.{PolicyRefusal}
 use Rattle.enf_run.proofs.FileLemmas.{same_formulas}
 use Rattle.enf_run.proofs.SampleLemmas.{sample_is_accepted}

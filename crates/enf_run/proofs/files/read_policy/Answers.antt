@@ -1,6 +1,5 @@
-use Rattle.enf_run.proofs.Vocabulary.{List, ℕ, Ok, Err, subst, Formula, IsAccepted, IsTyped, RefusesPolicy, Typed}
-use Rattle.enf_run.proofs.Vocabulary.{typed_of, GivesPolicyAnswer, IsPolicyAnswer, policy_rules_of, NameEntry}
-use Rattle.enf_run.proofs.Vocabulary.{IsShortFile, all_formulas}
+use Rattle.enf_run.proofs.Vocabulary.{List, ℕ, Ok, Err, subst, Formula, IsAccepted, IsTyped, RefusesPolicy, Typed, typed_of, GivesPolicyAnswer, IsPolicyAnswer, policy_rules_of, NameEntry, IsShortFile}
+use Rattle.enf_run.proofs.Vocabulary.{all_formulas}
 use Rattle.enf_run.proofs.FileLemmas.{same_formulas}
 use Rattle.enf_run.proofs.files.read_policy.Goals as goal
 

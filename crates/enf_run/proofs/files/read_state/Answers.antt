@@ -1,6 +1,5 @@
-use Rattle.enf_run.proofs.Vocabulary.{List, [], ℕ, ap, map, subst, sym, ◌∙◌, AllByRecursion, tree_in, plan_of}
-use Rattle.enf_run.proofs.Vocabulary.{IsScopedPlan, typed_of, IsTextOfLines, lines_of, IsSaveRefusal, IsSettingOf}
-use Rattle.enf_run.proofs.Vocabulary.{IsShortFile, typed_bounds}
+use Rattle.enf_run.proofs.Vocabulary.{List, [], ℕ, ap, map, subst, sym, ◌∙◌, AllByRecursion, tree_in, plan_of, IsScopedPlan, typed_of, IsTextOfLines, lines_of, IsSaveRefusal, IsSettingOf, IsShortFile}
+use Rattle.enf_run.proofs.Vocabulary.{typed_bounds}
 use Rattle.plan_terms.specs.declared.plans.Plan.{Plan as StoredPlan}
 use Rattle.enf_run.proofs.SavedStateLemmas.{same_guards}
 use Rattle.enf_run.proofs.StartLemmas.{all_scoped}

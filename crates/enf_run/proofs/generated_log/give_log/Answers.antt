@@ -1,7 +1,6 @@
 use Rattle.enf_run.proofs.Vocabulary.{◌<◌, ◌≤◌, ◌∙◌, ap, arith, inl, err_from_is_err_and}
 use Rattle.std.specs.Prelude.{Ok}
-use Rattle.enf_run.proofs.GeneratedLogLemmas.{gathered_cut, gathered_given, gathered_line, gathered_short}
-use Rattle.enf_run.proofs.GeneratedLogLemmas.{gathered_whole}
+use Rattle.enf_run.proofs.GeneratedLogLemmas.{gathered_cut, gathered_given, gathered_line, gathered_short, gathered_whole}
 use Rattle.enf_run.proofs.generated_log.give_log.Goals as goal
 
 pub returns-in_err-append_line-clause-cut : goal.returns-in_err-append_line-clause-cut

@@ -1,5 +1,4 @@
-use Rattle.enf_run.proofs.Vocabulary.{List, subst, err_from_is_err_and, acted_steps, policy_rules_of, CutsSteps}
-use Rattle.enf_run.proofs.Vocabulary.{seen_of}
+use Rattle.enf_run.proofs.Vocabulary.{List, subst, err_from_is_err_and, acted_steps, policy_rules_of, CutsSteps, seen_of}
 use Rattle.enforcer_core.specs.declared.steps.OutStep.{OutStep}
 use Rattle.enf_run.proofs.TurnCallLemmas.{cuts_answer}
 use Rattle.enf_run.proofs.log_run.enforce_item.Goals as goal

@@ -1,7 +1,5 @@
-use Rattle.enf_run.proofs.Vocabulary.{◌∙◌, Bool, [], ℕ, length, refl, ap, sym, subst, arith}
-use Rattle.enf_run.proofs.Vocabulary.{err_from_is_err_and, policy_rules_of, Reader, RanAsJudged, rest_left}
-use Rattle.enf_run.proofs.Vocabulary.{enforcer_setting, TookLog, seen_of, Enforcing, input_log, CutsDrain, GivesRest}
-use Rattle.enf_run.proofs.Vocabulary.{log_moment, reads_on}
+use Rattle.enf_run.proofs.Vocabulary.{◌∙◌, Bool, [], ℕ, length, refl, ap, sym, subst, arith, err_from_is_err_and, policy_rules_of, Reader, RanAsJudged, rest_left, enforcer_setting, TookLog, seen_of}
+use Rattle.enf_run.proofs.Vocabulary.{Enforcing, input_log, CutsDrain, GivesRest, log_moment, reads_on}
 use Rattle.enf_run.proofs.LogProgressLemmas.{cut_drain, ran_rest}
 use Rattle.enf_run.proofs.LogTurnLemmas.{cut_run, done_none, ends_log, goes_on, limits_none}
 use Rattle.enf_run.proofs.TakenLogLemmas.{lost_rest, lost_so, taken_none, took_so}

@@ -1,5 +1,4 @@
-use Rattle.enf_run.proofs.Vocabulary.{◌≡◌, ◌+◌, ◌*◌, ◌-◌, ◌≤◌, List, ℕ, length}
-use Rattle.enf_run.proofs.Vocabulary.{policy_rules_of, seen_of, most_log_bytes, most_read_bytes, reads_on}
+use Rattle.enf_run.proofs.Vocabulary.{◌≡◌, ◌+◌, ◌*◌, ◌-◌, ◌≤◌, List, ℕ, length, policy_rules_of, seen_of, most_log_bytes, most_read_bytes, reads_on}
 use Rattle.enf_run.proofs.LogTurnLemmas.{Done, IsWithinLimits}
 use Rattle.enf_run.proofs.TakenLogLemmas.{HasTaken}
 use Rattle.enf_run.proofs.log_run.enforce_log.Given as goal

@@ -1,5 +1,4 @@
-use Rattle.enf_run.proofs.Vocabulary.{List, ℕ, ◌++◌, ap, codes, decimal, sym, subst, LogRefusal}
-use Rattle.enf_run.proofs.Vocabulary.{text_of_log_refusal, WritesText}
+use Rattle.enf_run.proofs.Vocabulary.{List, ℕ, ◌++◌, ap, codes, decimal, sym, subst, LogRefusal, text_of_log_refusal, WritesText}
 use Rattle.enf_run.proofs.refusals.write_log_refusal.Goals as goal
 
 -- what is said of the record with a number

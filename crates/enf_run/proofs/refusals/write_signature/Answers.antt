@@ -1,5 +1,4 @@
-use Rattle.enf_run.proofs.Vocabulary.{List, ℕ, ◌++◌, ◌∙◌, ap, codes, decimal, sym, subst, text_of_signature}
-use Rattle.enf_run.proofs.Vocabulary.{WritesText}
+use Rattle.enf_run.proofs.Vocabulary.{List, ℕ, ◌++◌, ◌∙◌, ap, codes, decimal, sym, subst, text_of_signature, WritesText}
 use Rattle.signature.specs.declared.refusals.SignatureRefusal.{SignatureRefusal as TextRefusal}
 use Rattle.enf_run.proofs.PieceLemmas.{five_pieces}
 use Rattle.enf_run.proofs.refusals.write_signature.Goals as goal

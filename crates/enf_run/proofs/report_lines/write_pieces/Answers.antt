@@ -1,5 +1,4 @@
-use Rattle.enf_run.proofs.Vocabulary.{◌∙◌, ap, Err, err_from_is_err_and, written_before, cut_after}
-use Rattle.enf_run.proofs.Vocabulary.{write_faults_behind}
+use Rattle.enf_run.proofs.Vocabulary.{◌∙◌, ap, Err, err_from_is_err_and, written_before, cut_after, write_faults_behind}
 use Rattle.enf_run.proofs.ReportLemmas.{cut_counts, pieces_part}
 use Rattle.enf_run.proofs.report_lines.write_pieces.Goals as goal
 

@@ -1,8 +1,5 @@
-use Rattle.enf_run.proofs.Vocabulary.{◌∙◌, refl, subst, err_from_is_err_and, FileView, MOST_FILE_BYTES, typed_of}
-use Rattle.enf_run.proofs.Vocabulary.{policy_rules_of, EndsFile, HoldsPolicy, HoldsRefusedPolicy, AuditOutcome}
-use Rattle.enf_run.proofs.Vocabulary.{IsAuditForm}
-use Rattle.enf_run.proofs.RunLemmas.{audit_cut, audit_lost, audit_refusal, audit_refused, audit_said, audit_sources}
-use Rattle.enf_run.proofs.RunLemmas.{policy_ends, signature_ends}
+use Rattle.enf_run.proofs.Vocabulary.{◌∙◌, refl, subst, err_from_is_err_and, FileView, MOST_FILE_BYTES, typed_of, policy_rules_of, EndsFile, HoldsPolicy, HoldsRefusedPolicy, AuditOutcome, IsAuditForm}
+use Rattle.enf_run.proofs.RunLemmas.{audit_cut, audit_lost, audit_refusal, audit_refused, audit_said, audit_sources, policy_ends, signature_ends}
 use Rattle.enf_run.proofs.run.audit.Goals as goal
 
 pub returns-in_err-read : goal.returns-in_err-read

@@ -1,5 +1,4 @@
-use Rattle.enf_run.proofs.Vocabulary.{List, ℕ, ap, subst, sym, Option, Bor, err_from_is_err_and, option_map, typed_of}
-use Rattle.enf_run.proofs.Vocabulary.{BeginsLog, typed_bounds}
+use Rattle.enf_run.proofs.Vocabulary.{List, ℕ, ap, subst, sym, Option, Bor, err_from_is_err_and, option_map, typed_of, BeginsLog, typed_bounds}
 use Rattle.enf_run.proofs.StartLemmas.{begins_again, begins_anew, start_refused, taken_up}
 use Rattle.enf_run.proofs.run.begin_log.Goals as goal
 

@@ -1,6 +1,5 @@
-use Rattle.enf_run.proofs.Vocabulary.{List, ◌∙◌, Err, Ok, map, refl, subst, err_from_is_err_and, FileView}
-use Rattle.enf_run.proofs.Vocabulary.{MOST_FILE_BYTES, typed_of, rule_of, policy_rules_of, check_text, CheckOutcome}
-use Rattle.enf_run.proofs.Vocabulary.{EndsFile, HoldsPolicy, HoldsRefusedPolicy, WritesText, IsCheckForm}
+use Rattle.enf_run.proofs.Vocabulary.{List, ◌∙◌, Err, Ok, map, refl, subst, err_from_is_err_and, FileView, MOST_FILE_BYTES, typed_of, rule_of, policy_rules_of, check_text, CheckOutcome, EndsFile}
+use Rattle.enf_run.proofs.Vocabulary.{HoldsPolicy, HoldsRefusedPolicy, WritesText, IsCheckForm}
 use Rattle.formula_reader.specs.declared.policies.Rule.{Rule}
 use Rattle.enf_run.proofs.RunLemmas.{check_done, check_ends, check_sources, policy_ends, signature_ends}
 use Rattle.enf_run.proofs.run.check.Goals as goal

@@ -1,7 +1,5 @@
-use Rattle.enf_run.proofs.Vocabulary.{◌∙◌, List, ℕ, refl, subst, sym, err_from_is_err_and, option_map, FileView}
-use Rattle.enf_run.proofs.Vocabulary.{MOST_FILE_BYTES, policy_rules_of, devices_of, EndsFile, HoldsPolicy}
-use Rattle.enf_run.proofs.Vocabulary.{HoldsRefusedPolicy, HoldsSignature, EnforceOutcome, Concludes, SpellsSignature}
-use Rattle.enf_run.proofs.Vocabulary.{NamesEnforce, states_of}
+use Rattle.enf_run.proofs.Vocabulary.{◌∙◌, List, ℕ, refl, subst, sym, err_from_is_err_and, option_map, FileView, MOST_FILE_BYTES, policy_rules_of, devices_of, EndsFile, HoldsPolicy}
+use Rattle.enf_run.proofs.Vocabulary.{HoldsRefusedPolicy, HoldsSignature, EnforceOutcome, Concludes, SpellsSignature, NamesEnforce, states_of}
 use Rattle.enf_run.proofs.RunLemmas.{enforce_sources, policy_ends, signature_ends}
 use Rattle.enf_run.proofs.run.enforce.Goals as goal
 

@@ -1,6 +1,5 @@
-use Rattle.enf_run.proofs.Vocabulary.{Err, Ok, map, refl, subst, sym, err_from_is_err_and, option_map, FileView}
-use Rattle.enf_run.proofs.Vocabulary.{is_causable, is_suppressible, StoredTyped, typed_of, Permits, policy_rules_of}
-use Rattle.enf_run.proofs.Vocabulary.{plan_of, RunsLogSo, seen_of, IsBounds, typed_bounds, states_of}
+use Rattle.enf_run.proofs.Vocabulary.{Err, Ok, map, refl, subst, sym, err_from_is_err_and, option_map, FileView, is_causable, is_suppressible, StoredTyped, typed_of, Permits, policy_rules_of, plan_of}
+use Rattle.enf_run.proofs.Vocabulary.{RunsLogSo, seen_of, IsBounds, typed_bounds, states_of}
 use Rattle.enf_run.proofs.RunLemmas.{run_done, run_ends, start_ends}
 use Rattle.enf_run.proofs.run.enforce_accepted.Goals as goal
 

@@ -1,5 +1,4 @@
-use Rattle.enf_run.proofs.Vocabulary.{refl, subst, option_map, Audit, Check, Drill, Enforce, Generate, NoForm}
-use Rattle.enf_run.proofs.Vocabulary.{MatchesForm, states_of, texts_of}
+use Rattle.enf_run.proofs.Vocabulary.{refl, subst, option_map, Audit, Check, Drill, Enforce, Generate, NoForm, MatchesForm, states_of, texts_of}
 use Rattle.enf_run.proofs.RequestLemmas.{no_form, outcome_of}
 use Rattle.enf_run.proofs.RunLemmas.{words_refused}
 use Rattle.enf_run.proofs.run.perform.Goals as goal

@@ -1,6 +1,5 @@
-use Rattle.enf_run.proofs.Vocabulary.{Bool, false, ◌∙◌, ◌≡◌, Err, Ok, inl, inr, is_some, subst, sym, refl}
-use Rattle.enf_run.proofs.Vocabulary.{option_map, err_from_is_err_and, Enforcing, policy_rules_of, RanAsJudged}
-use Rattle.enf_run.proofs.Vocabulary.{enforcer_setting, SavesWhereAsked, seen_of, input_log}
+use Rattle.enf_run.proofs.Vocabulary.{Bool, false, ◌∙◌, ◌≡◌, Err, Ok, inl, inr, is_some, subst, sym, refl, option_map, err_from_is_err_and, Enforcing, policy_rules_of, RanAsJudged, enforcer_setting}
+use Rattle.enf_run.proofs.Vocabulary.{SavesWhereAsked, seen_of, input_log}
 use Rattle.enf_run.proofs.SavedStateLemmas.{accepted_so, same_some, took_accepted}
 use Rattle.enf_run.proofs.run.run_log.Goals as goal
 

@@ -1,5 +1,4 @@
-use Rattle.enf_run.proofs.Vocabulary.{List, ℕ, Err, Ok, subst, ◌∙◌, err_from_is_err_and, WritesFile}
-use Rattle.enf_run.proofs.Vocabulary.{IsTextOfLines, lines_of}
+use Rattle.enf_run.proofs.Vocabulary.{List, ℕ, Err, Ok, subst, ◌∙◌, err_from_is_err_and, WritesFile, IsTextOfLines, lines_of}
 use Rattle.enf_run.proofs.SavedStateLemmas.{save_fails}
 use Rattle.enf_run.proofs.saved_state.save_state.Goals as goal
 

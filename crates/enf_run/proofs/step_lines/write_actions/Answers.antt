@@ -1,5 +1,4 @@
-use Rattle.enf_run.proofs.Vocabulary.{List, ℕ, ap, subst, flat_map, take_all, err_from_is_err_and, action_line}
-use Rattle.enf_run.proofs.Vocabulary.{policy_rules_of, Action}
+use Rattle.enf_run.proofs.Vocabulary.{List, ℕ, ap, subst, flat_map, take_all, err_from_is_err_and, action_line, policy_rules_of, Action}
 use Rattle.enf_run.proofs.TextLemmas.{Broken, Whole, piece_cut, piece_whole, whole_none}
 use Rattle.enf_run.proofs.step_lines.write_actions.Goals as goal
 

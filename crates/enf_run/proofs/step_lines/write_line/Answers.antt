@@ -1,5 +1,4 @@
-use Rattle.enf_run.proofs.Vocabulary.{List, ℕ, ◌≡◌, ◌++◌, ◌∙◌, ap, subst, err_from_is_err_and}
-use Rattle.enf_run.proofs.Vocabulary.{out_step, acted_step, line_of, entry_names as names_of, cut_after}
+use Rattle.enf_run.proofs.Vocabulary.{List, ℕ, ◌≡◌, ◌++◌, ◌∙◌, ap, subst, err_from_is_err_and, out_step, acted_step, line_of, entry_names as names_of, cut_after}
 use Rattle.enf_run.proofs.TextLemmas.{Broken, written_cut}
 use Rattle.enf_run.proofs.step_lines.write_line.Goals as goal
 

@@ -1,6 +1,4 @@
-use Rattle.enf_run.proofs.Vocabulary.{List, ℕ, ◌≡◌, ◌<◌, ◌++◌, ◌∙◌, ap, arith, length, subst}
-use Rattle.enf_run.proofs.Vocabulary.{err_from_is_err_and, LiteralKind, Cause, Suppress, action_line, kind_text}
-use Rattle.enf_run.proofs.Vocabulary.{policy_rules_of, cut_after}
+use Rattle.enf_run.proofs.Vocabulary.{List, ℕ, ◌≡◌, ◌<◌, ◌++◌, ◌∙◌, ap, arith, length, subst, err_from_is_err_and, LiteralKind, Cause, Suppress, action_line, kind_text, policy_rules_of, cut_after}
 use Rattle.enf_run.proofs.TextLemmas.{Broken, broken_at_once, written_cut}
 use Rattle.enf_run.proofs.step_lines.write_report_line.Goals as goal
 

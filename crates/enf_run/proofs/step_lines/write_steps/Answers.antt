@@ -1,6 +1,5 @@
-use Rattle.enf_run.proofs.Vocabulary.{List, [], ◌∷◌, ◌+◌, take, drop, subst, sym, ap, refl, take_all}
-use Rattle.enf_run.proofs.Vocabulary.{err_from_is_err_and, ActedStep, acted_step, acted_steps, policy_rules_of, Action}
-use Rattle.enf_run.proofs.Vocabulary.{flat_map, action_line, CutsSteps, GivesSteps, seen_of}
+use Rattle.enf_run.proofs.Vocabulary.{List, [], ◌∷◌, ◌+◌, take, drop, subst, sym, ap, refl, take_all, err_from_is_err_and, ActedStep, acted_step, acted_steps, policy_rules_of, Action, flat_map}
+use Rattle.enf_run.proofs.Vocabulary.{action_line, CutsSteps, GivesSteps, seen_of}
 use Rattle.enf_run.proofs.LineLemmas.{cut_actions, cut_line, gives_more, gives_none, gives_one, split_at, taken_next}
 use Rattle.enf_run.proofs.TextLemmas.{Broken, Whole}
 use Rattle.enf_run.proofs.step_lines.write_steps.Goals as goal

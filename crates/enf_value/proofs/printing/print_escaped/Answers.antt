@@ -1,5 +1,4 @@
-use Rattle.enf_value.proofs.Vocabulary.{ap, arith, subst, take, ◌∙◌, ◌++◌, flat_map, AppendsPart, escaped}
-use Rattle.enf_value.proofs.Vocabulary.{on_err_from}
+use Rattle.enf_value.proofs.Vocabulary.{ap, arith, subst, take, ◌∙◌, ◌++◌, flat_map, AppendsPart, escaped, on_err_from}
 use Rattle.enf_value.proofs.Parts.{front_appended, part_behind}
 use Rattle.enf_value.proofs.TextTokens.{slice_from}
 use Rattle.enf_value.proofs.printing.print_escaped.Goals as goal

@@ -1,6 +1,5 @@
-use Rattle.enf_value.proofs.Vocabulary.{◌≡◌, ◌∙◌, ◌++◌, ℕ, ◌+◌, ◌-◌, ◌≤◌, List, ap}
-use Rattle.enf_value.proofs.Vocabulary.{ap₂, arith, decimal, length, subst, sym, take, OnOk, decimal_digit}
-use Rattle.enf_value.proofs.Vocabulary.{length-decimal-le, take-take, take-append-add, take-append_seam}
+use Rattle.enf_value.proofs.Vocabulary.{◌≡◌, ◌∙◌, ◌++◌, ℕ, ◌+◌, ◌-◌, ◌≤◌, List, ap, ap₂, arith, decimal, length, subst, sym, take, OnOk, decimal_digit, length-decimal-le, take-take, take-append-add}
+use Rattle.enf_value.proofs.Vocabulary.{take-append_seam}
 use Rattle.enf_value.proofs.printing.print_number.Goals as goal
 
 -- of a piece that is longer than wanted a cut leaves its front

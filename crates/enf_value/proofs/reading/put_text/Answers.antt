@@ -1,5 +1,4 @@
-use Rattle.enf_value.proofs.Vocabulary.{◌+◌, ◌-◌, drop, length, subst, sym, take, ValueTokenAt, WrittenTextAt}
-use Rattle.enf_value.proofs.Vocabulary.{Text}
+use Rattle.enf_value.proofs.Vocabulary.{◌+◌, ◌-◌, drop, length, subst, sym, take, ValueTokenAt, WrittenTextAt, Text}
 use Rattle.enf_value.proofs.TextTokens.{slice_from, text_from_ascii, token_from_written}
 use Rattle.enf_value.proofs.reading.put_text.Goals as goal
 

@@ -1,10 +1,6 @@
-use Rattle.enf_value.proofs.Vocabulary.{◌≡◌, ◌+◌, ◌-◌, ◌<◌, ◌≤◌, false, length, pos}
-use Rattle.enf_value.proofs.Vocabulary.{slice_index, subst, sym, arith, ◌∙◌, is_ascii_digit, ValueTokenAt, Num}
-use Rattle.enf_value.proofs.Numerals.{all_passed, digit_from_test, digit_more, no_larger, no_minus, plain_token}
-use Rattle.enf_value.proofs.Numerals.{range_from_digit, some_digit, within_rest}
-use Rattle.enf_value.proofs.reading.read_digits.Goals.{then-loop-end-test+else-is_ascii_digit, else-loop-end-test}
-use Rattle.enf_value.proofs.reading.read_digits.Goals.{then-end-at-via-then-end-at}
-use Rattle.enf_value.proofs.reading.read_digits.Goals.{then-end-at-via-else-end-at+then-number}
+use Rattle.enf_value.proofs.Vocabulary.{◌≡◌, ◌+◌, ◌-◌, ◌<◌, ◌≤◌, false, length, pos, slice_index, subst, sym, arith, ◌∙◌, is_ascii_digit, ValueTokenAt, Num}
+use Rattle.enf_value.proofs.Numerals.{all_passed, digit_from_test, digit_more, no_larger, no_minus, plain_token, range_from_digit, some_digit, within_rest}
+use Rattle.enf_value.proofs.reading.read_digits.Goals.{then-loop-end-test+else-is_ascii_digit, else-loop-end-test, then-end-at-via-then-end-at, then-end-at-via-else-end-at+then-number}
 use Rattle.enf_value.proofs.reading.read_digits.Goals as goal
 
 pub returns-then-number-gt-MOST_BEFORE_A_DIGIT-clause-none :

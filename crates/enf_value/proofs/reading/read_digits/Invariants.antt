@@ -1,5 +1,4 @@
-use Rattle.enf_value.proofs.Vocabulary.{◌≡◌, ◌<◌, ◌≤◌, ◌-◌, drop, length, take, AllDigits}
-use Rattle.enf_value.proofs.Vocabulary.{digits_value}
+use Rattle.enf_value.proofs.Vocabulary.{◌≡◌, ◌<◌, ◌≤◌, ◌-◌, drop, length, take, AllDigits, digits_value}
 use Rattle.enf_value.proofs.reading.read_digits.Given as goal
 
 abbrev pub invariant-loop-end : goal.invariant-loop-end

@@ -1,5 +1,4 @@
-use Rattle.enf_value.proofs.Vocabulary.{sym, ap, subst, ◌∙◌, take, w64, IsUtf8, to_z-of_z, to_z_pos}
-use Rattle.enf_value.proofs.Vocabulary.{MatchResult-at_ok, ValueTokenAt, Num, ok_some}
+use Rattle.enf_value.proofs.Vocabulary.{sym, ap, subst, ◌∙◌, take, w64, IsUtf8, to_z-of_z, to_z_pos, MatchResult-at_ok, ValueTokenAt, Num, ok_some}
 use Rattle.enf_value.proofs.Numerals.{err_utf8, none_ok, front_utf8, front_parses, parsed_front, fits_from_number}
 use Rattle.enf_value.proofs.reading.read_number.Goals as goal
 

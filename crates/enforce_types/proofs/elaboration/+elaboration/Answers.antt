@@ -1,11 +1,7 @@
-use Rattle.enforce_types.proofs.Vocabulary.{◌↔◌, ◌≡◌, Ok, Err, List, Contains, ap, refl, subst, IsTrue}
-use Rattle.enforce_types.proofs.Vocabulary.{◌∙◌, ◌++◌, VarId, Formula, tree_of, plan_of, IsTest, Answer}
-use Rattle.enforce_types.proofs.Vocabulary.{Exclusion, ImplicationAnswer, OneOfTwo, OverOne, OverTwo, Elab, Up, Down}
-use Rattle.enforce_types.proofs.Vocabulary.{is_causable, is_suppressible, GivesAnswer, GivesRefusal, aim_where}
-use Rattle.enforce_types.proofs.Vocabulary.{denied_where, positive_end, positive_end_from, test_answer}
-use Rattle.enforce_types.proofs.OperandLemmas.{answer_map, endless, endless_from, found_false, has_end, has_end_from}
-use Rattle.enforce_types.proofs.OperandLemmas.{no_end, passed_on, refusal_map, refused_by, side_test, test_of_side}
-use Rattle.enforce_types.proofs.OperandLemmas.{tested_keeps}
+use Rattle.enforce_types.proofs.Vocabulary.{◌↔◌, ◌≡◌, Ok, Err, List, Contains, ap, refl, subst, IsTrue, ◌∙◌, ◌++◌, VarId, Formula, tree_of, plan_of, IsTest, Answer, Exclusion, ImplicationAnswer}
+use Rattle.enforce_types.proofs.Vocabulary.{OneOfTwo, OverOne, OverTwo, Elab, Up, Down, is_causable, is_suppressible, GivesAnswer, GivesRefusal, aim_where, denied_where, positive_end}
+use Rattle.enforce_types.proofs.Vocabulary.{positive_end_from, test_answer}
+use Rattle.enforce_types.proofs.OperandLemmas.{answer_map, endless, endless_from, found_false, has_end, has_end_from, no_end, passed_on, refusal_map, refused_by, side_test, test_of_side, tested_keeps}
 use Rattle.plan_terms.specs.meaning.Plans as plan
 use Rattle.enforce_types.proofs.elaboration.+elaboration.Goals as goal
 

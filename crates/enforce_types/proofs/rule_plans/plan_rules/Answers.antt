@@ -1,8 +1,5 @@
-use Rattle.enforce_types.proofs.Vocabulary.{◌+◌, ◌≤◌, length, map, sym, arith, length-map, tree_of}
-use Rattle.enforce_types.proofs.Vocabulary.{formula_size, plan_of, MOST_NODES, guard_of, guards_of, node_count}
-use Rattle.enforce_types.proofs.Vocabulary.{guard_count, HasPlan}
-use Rattle.enforce_types.proofs.RulePlanLemmas.{has_plan, has_refusal, rule_safe, nodes_few, guards_few, few_more}
-use Rattle.enforce_types.proofs.RulePlanLemmas.{size_at, planned_more, refused_at, rule_refused}
+use Rattle.enforce_types.proofs.Vocabulary.{◌+◌, ◌≤◌, length, map, sym, arith, length-map, tree_of, formula_size, plan_of, MOST_NODES, guard_of, guards_of, node_count, guard_count, HasPlan}
+use Rattle.enforce_types.proofs.RulePlanLemmas.{has_plan, has_refusal, rule_safe, nodes_few, guards_few, few_more, size_at, planned_more, refused_at, rule_refused}
 use Rattle.enforce_types.proofs.rule_plans.plan_rules.Goals as goal
 
 pub push-requires-clause-safe : goal.push-requires-clause-safe

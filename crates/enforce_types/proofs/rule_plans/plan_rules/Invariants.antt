@@ -1,5 +1,4 @@
-use Rattle.enforce_types.proofs.Vocabulary.{◌*◌, ◌≤◌, length, map, take, guards_of, ArePlanned}
-use Rattle.enforce_types.proofs.Vocabulary.{stored_rule_formulas, plan_of, MOST_NODES}
+use Rattle.enforce_types.proofs.Vocabulary.{◌*◌, ◌≤◌, length, map, take, guards_of, ArePlanned, stored_rule_formulas, plan_of, MOST_NODES}
 use Rattle.enforce_types.proofs.rule_plans.plan_rules.Given as goal
 
 abbrev pub invariant-loop-rule : goal.invariant-loop-rule

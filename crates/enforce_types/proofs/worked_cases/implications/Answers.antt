@@ -1,5 +1,4 @@
-use Rattle.enforce_types.proofs.Vocabulary.{refl, AlwaysPlan, OverOne, ImplicationAnswer, NotEnforceable, p_leaf}
-use Rattle.enforce_types.proofs.Vocabulary.{q_leaf}
+use Rattle.enforce_types.proofs.Vocabulary.{refl, AlwaysPlan, OverOne, ImplicationAnswer, NotEnforceable, p_leaf, q_leaf}
 use Rattle.enforce_types.proofs.CaseLemmas.{test_q, guards_p}
 use Rattle.enforce_types.proofs.worked_cases.implications.Goals as goal
 

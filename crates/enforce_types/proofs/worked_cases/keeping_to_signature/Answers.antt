@@ -1,6 +1,5 @@
-use Rattle.enforce_types.proofs.Vocabulary.{◌≡◌, ℕ, IsTrue, [], arith, refl, subst, ⊎_elim, true≢false, sym}
-use Rattle.enforce_types.proofs.Vocabulary.{same_Some, first_or_later, here, none_in_nil, NameId, name_p, name_q}
-use Rattle.enforce_types.proofs.Vocabulary.{text_entries, is_causable}
+use Rattle.enforce_types.proofs.Vocabulary.{◌≡◌, ℕ, IsTrue, [], arith, refl, subst, ⊎_elim, true≢false, sym, same_Some, first_or_later, here, none_in_nil, NameId, name_p, name_q, text_entries}
+use Rattle.enforce_types.proofs.Vocabulary.{is_causable}
 use Rattle.enforce_types.proofs.worked_cases.keeping_to_signature.Goals as goal
 
 pub returns-clause-kept : goal.returns-clause-kept

@@ -1,5 +1,4 @@
-use Rattle.enforce_types.proofs.Vocabulary.{refl, OverOne, OverTwo, OneOfTwo, Exclusion, NotEnforceable, p_leaf}
-use Rattle.enforce_types.proofs.Vocabulary.{p_x_leaf, q_leaf}
+use Rattle.enforce_types.proofs.Vocabulary.{refl, OverOne, OverTwo, OneOfTwo, Exclusion, NotEnforceable, p_leaf, p_x_leaf, q_leaf}
 use Rattle.enforce_types.proofs.CaseLemmas.{test_not_q, guards_x}
 use Rattle.enforce_types.proofs.worked_cases.made_false.Goals as goal
 

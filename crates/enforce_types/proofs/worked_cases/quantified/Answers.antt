@@ -1,6 +1,4 @@
-use Rattle.enforce_types.proofs.Vocabulary.{[], refl, EventuallyPlan, AlwaysPlan, variable_x, here, none_in_nil, Term}
-use Rattle.enforce_types.proofs.Vocabulary.{Var, OverOne, ImplicationAnswer, Exclusion, NotEnforceable, p_x_leaf}
-use Rattle.enforce_types.proofs.Vocabulary.{q_x_leaf}
+use Rattle.enforce_types.proofs.Vocabulary.{[], refl, EventuallyPlan, AlwaysPlan, variable_x, here, none_in_nil, Term, Var, OverOne, ImplicationAnswer, Exclusion, NotEnforceable, p_x_leaf, q_x_leaf}
 use Rattle.enforce_types.proofs.CaseLemmas.{guards_x, guards_x_y}
 use Rattle.enforce_types.proofs.worked_cases.quantified.Goals as goal
 

@@ -1,8 +1,5 @@
-use Rattle.enforce_types.proofs.Vocabulary.{◌≡◌, ℕ, zero, suc, pos, [], ◌∷◌, Option, codes, nat_eq, cond}
-use Rattle.enforce_types.proofs.Vocabulary.{false, inr, ⊎_elim, Contains, refl, sym, subst, ◌∙◌, none-some}
-use Rattle.enforce_types.proofs.Vocabulary.{step_at, first_or_later, here, none_in_nil, VarId, Num, name_p, FillColumns}
-use Rattle.enforce_types.proofs.Vocabulary.{FitsSignature, entry_columns, NameEntry, Sort, Int, Text, text_a}
-use Rattle.enforce_types.proofs.Vocabulary.{int_and_text_entries, one_p}
+use Rattle.enforce_types.proofs.Vocabulary.{◌≡◌, ℕ, zero, suc, pos, [], ◌∷◌, Option, codes, nat_eq, cond, false, inr, ⊎_elim, Contains, refl, sym, subst, ◌∙◌, none-some, step_at, first_or_later, here}
+use Rattle.enforce_types.proofs.Vocabulary.{none_in_nil, VarId, Num, name_p, FillColumns, FitsSignature, entry_columns, NameEntry, Sort, Int, Text, text_a, int_and_text_entries, one_p}
 use Rattle.std.specs.Prelude.{slice_get}
 use Rattle.enforce_types.proofs.worked_cases.sorts.Goals as goal
 

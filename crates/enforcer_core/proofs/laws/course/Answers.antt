@@ -1,7 +1,6 @@
 use Rattle.enforcer_core.proofs.Vocabulary.{◌∷◌, [], sym, ◌∙◌, acted_steps}
-use Rattle.enforcer_core.proofs.CourseLemmas.{course_begins, course_ends, course_follows, course_follows_to_end}
-use Rattle.enforcer_core.proofs.CourseLemmas.{course_is_justified, course_is_justified_to_end, course_keeps_up}
-use Rattle.enforcer_core.proofs.CourseLemmas.{more_changes, more_decided, more_in_time, more_stands, stands_good}
+use Rattle.enforcer_core.proofs.CourseLemmas.{course_begins, course_ends, course_follows, course_follows_to_end, course_is_justified, course_is_justified_to_end, course_keeps_up, more_changes}
+use Rattle.enforcer_core.proofs.CourseLemmas.{more_decided, more_in_time, more_stands, stands_good}
 use Rattle.enforcer_core.proofs.TransparencyLemmas.{course_is_transparent, course_is_transparent_to_end}
 use Rattle.enforcer_core.proofs.laws.course.Goals as goal
 
@@ -9,19 +8,19 @@ pub returns-clause-begins : goal.returns-clause-begins
 returns-clause-begins c = course_begins
 
 pub returns-clause-goes_on : goal.returns-clause-goes_on
-returns-clause-goes_on c start trace records out now next made after course takes =
+returns-clause-goes_on c start trace records out now next made after course called goes_on stands changed decided =
     let more = acted_steps made.steps in
-    let policy = takes.goes_on.policy in
-    let clock = takes.goes_on.clock_is in
-    let later = takes.in_time.not_over in
+    let policy = goes_on.policy in
+    let clock = goes_on.clock_is in
+    let later = called.not_over in
     record {
       began = course.began;
       policy = policy ∙ course.policy;
       clock = clock ∙ sym (c.records_join.ensures.clock start.clock records (next ∷ []));
       in_time = more_in_time start trace records out now course next more after policy clock later c.records_join.ensures.never_fall;
-      stands = more_stands start trace records out now course next more after policy clock later takes.stands;
-      changed = more_changes start trace records out now course next more after policy clock later c.records_join.ensures.rises c.lawful_joins.ensures.within c.lawful_joins.ensures.lawful takes.changed;
-      decided = more_decided start trace records out now course next more after policy clock later takes.decided;
+      stands = more_stands start trace records out now course next more after policy clock later stands;
+      changed = more_changes start trace records out now course next more after policy clock later c.records_join.ensures.rises c.lawful_joins.ensures.within c.lawful_joins.ensures.lawful changed;
+      decided = more_decided start trace records out now course next more after policy clock later decided;
     }
 
 pub returns-clause-keeps_up : goal.returns-clause-keeps_up
@@ -29,8 +28,8 @@ returns-clause-keeps_up c causable suppressible start trace records out now may 
     course_keeps_up start trace records out now course (stands_good c.drain_laws.ensures) causable suppressible may together
 
 pub returns-clause-enforces : goal.returns-clause-enforces
-returns-clause-enforces c causable suppressible start trace records out now made after may course drains =
-    course_ends start trace records out now course (acted_steps made.steps) after c.lawful_joins.ensures.lawful causable suppressible may drains.stands drains.satisfied drains.changed
+returns-clause-enforces c causable suppressible start trace records out now made after may course stands satisfied changed =
+    course_ends start trace records out now course (acted_steps made.steps) after c.lawful_joins.ensures.lawful causable suppressible may stands satisfied changed
 
 pub returns-clause-follows : goal.returns-clause-follows
 returns-clause-follows c = course_follows

@@ -1,5 +1,4 @@
-use Rattle.enforcer_core.proofs.ReachLemmas.{deadlines_are_within_reach, goes_over, highs_are_near}
-use Rattle.enforcer_core.proofs.ReachLemmas.{reach_is_within_horizon, served_deadlines_fall, windows_are_in_order}
+use Rattle.enforcer_core.proofs.ReachLemmas.{deadlines_are_within_reach, goes_over, highs_are_near, reach_is_within_horizon, served_deadlines_fall, windows_are_in_order}
 use Rattle.enforcer_core.proofs.termination.serving_ends.Goals as goal
 
 pub returns-clause-fall : goal.returns-clause-fall

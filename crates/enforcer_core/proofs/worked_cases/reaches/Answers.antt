@@ -1,5 +1,4 @@
-use Rattle.enforcer_core.proofs.Vocabulary.{◌≡◌, ℕ, ◌+◌, Bool, true, false, cond, nat_eq, refl, arith}
-use Rattle.enforcer_core.proofs.Vocabulary.{unsigned_Decides}
+use Rattle.enforcer_core.proofs.Vocabulary.{◌≡◌, ℕ, ◌+◌, Bool, true, false, cond, nat_eq, refl, arith, unsigned_Decides}
 use Rattle.enforcer_core.proofs.worked_cases.reaches.Goals as goal
 
 none_above : (b : Bool) → (b ≡ true → ⊥) → 0 + cond {A = ℕ} b 1 0 ≡ 0 + cond {A = ℕ} b 1 0 + cond {A = ℕ} b 1 0

@@ -1,5 +1,4 @@
-use Rattle.formula_reader.proofs.Vocabulary.{◌≡◌, ap, sym, ◌∙◌, placed_from, printed_tokens, tokens}
-use Rattle.formula_reader.proofs.Vocabulary.{rule_pieces}
+use Rattle.formula_reader.proofs.Vocabulary.{◌≡◌, ap, sym, ◌∙◌, placed_from, printed_tokens, tokens, rule_pieces}
 use Rattle.formula_reader.proofs.TokensApart.{rule-apart}
 use Rattle.formula_reader.proofs.PrintedPieces.{printed-rule}
 use Rattle.formula_reader.proofs.laws.text_is_cut.Goals as goal

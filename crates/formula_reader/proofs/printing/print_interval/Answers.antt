@@ -1,5 +1,4 @@
-use Rattle.formula_reader.proofs.Vocabulary.{◌++◌, ◌∷◌, [], decimal, on_err_from, part_none, part_behind}
-use Rattle.formula_reader.proofs.Vocabulary.{end_text}
+use Rattle.formula_reader.proofs.Vocabulary.{◌++◌, ◌∷◌, [], decimal, on_err_from, part_none, part_behind, end_text}
 use Rattle.formula_reader.proofs.printing.print_interval.Goals as goal
 
 pub returns-in_err-print_end-clause-err : goal.returns-in_err-print_end-clause-err

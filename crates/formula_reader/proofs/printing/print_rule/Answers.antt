@@ -1,5 +1,4 @@
-use Rattle.formula_reader.proofs.Vocabulary.{◌++◌, ℕ, List, codes, ap, ◌∙◌, on_err_from, part_first}
-use Rattle.formula_reader.proofs.Vocabulary.{part_behind, formula_text}
+use Rattle.formula_reader.proofs.Vocabulary.{◌++◌, ℕ, List, codes, ap, ◌∙◌, on_err_from, part_first, part_behind, formula_text}
 use Rattle.enf_formula.specs.machine.FormulaViews as tree
 use Rattle.formula_reader.proofs.printing.print_rule.Goals as goal
 

@@ -1,6 +1,4 @@
-use Rattle.log_stream.proofs.Vocabulary.{◌≡◌, refl, sym, subst, ap, ◌∙◌, take_while, slice_index, drop}
-use Rattle.log_stream.proofs.Vocabulary.{length, false, true, is_ascii_digit, eqb-false, take_rest, is_word}
-use Rattle.log_stream.proofs.Vocabulary.{is_word_byte}
+use Rattle.log_stream.proofs.Vocabulary.{◌≡◌, refl, sym, subst, ap, ◌∙◌, take_while, slice_index, drop, length, false, true, is_ascii_digit, eqb-false, take_rest, is_word, is_word_byte}
 use Rattle.log_stream.proofs.TokensByFirstByte.{word_front}
 use Rattle.log_stream.proofs.cursor.name_at.Goals as goal
 

@@ -1,5 +1,4 @@
-use Rattle.log_stream.proofs.Vocabulary.{◌≡◌, ◌+◌, ◌-◌, ◌≤◌, drop, length, prefix_len, is_of_kind}
-use Rattle.log_stream.proofs.Vocabulary.{Word}
+use Rattle.log_stream.proofs.Vocabulary.{◌≡◌, ◌+◌, ◌-◌, ◌≤◌, drop, length, prefix_len, is_of_kind, Word}
 use Rattle.log_stream.proofs.cursor.word_length.Given as goal
 
 abbrev pub invariant-loop-at : goal.invariant-loop-at

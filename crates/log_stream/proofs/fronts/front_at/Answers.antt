@@ -1,5 +1,4 @@
-use Rattle.log_stream.proofs.Vocabulary.{List, ℕ, ◌+◌, subst, ap, refl, drop, length, arith, length-drop, Scans}
-use Rattle.log_stream.proofs.Vocabulary.{Open}
+use Rattle.log_stream.proofs.Vocabulary.{List, ℕ, ◌+◌, subst, ap, refl, drop, length, arith, length-drop, Scans, Open}
 use Rattle.log_stream.specs.declared.scanning.Scanned.TheVariants.{Ends}
 use Rattle.log_stream.proofs.RestFronts.{begins_at, endless_at, open_scan, whole_at, window_is}
 use Rattle.log_stream.proofs.fronts.front_at.Goals as goal

@@ -1,6 +1,5 @@
 -- What was printed of an event before memory ran out.
-use Rattle.log_stream.proofs.Vocabulary.{List, slice_index_or, [], subst, AppendsPart, Value, on_err_from}
-use Rattle.log_stream.proofs.Vocabulary.{entry_names as names_of, spelled_row}
+use Rattle.log_stream.proofs.Vocabulary.{List, slice_index_or, [], subst, AppendsPart, Value, on_err_from, entry_names as names_of, spelled_row}
 use Rattle.log_stream.proofs.TextFronts.{part_at_paren, part_in_row}
 use Rattle.log_stream.proofs.lines.print_event.Goals as goal
 

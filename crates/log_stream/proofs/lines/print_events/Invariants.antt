@@ -1,5 +1,4 @@
-use Rattle.log_stream.proofs.Vocabulary.{◌≡◌, ◌++◌, ◌∷◌, take, flat_map, spelled_event}
-use Rattle.log_stream.proofs.Vocabulary.{entry_names as names_of}
+use Rattle.log_stream.proofs.Vocabulary.{◌≡◌, ◌++◌, ◌∷◌, take, flat_map, spelled_event, entry_names as names_of}
 use Rattle.log_stream.proofs.lines.print_events.Given as goal
 
 abbrev pub invariant-loop-event : goal.invariant-loop-event

@@ -1,6 +1,5 @@
 -- What was printed of a line before memory ran out.
-use Rattle.log_stream.proofs.Vocabulary.{AppendsPart, Event, on_err_from, List, [], subst, ◌++◌, ◌∷◌, ap}
-use Rattle.log_stream.proofs.Vocabulary.{◌∙◌, decimal, flat_map, entry_names as names_of, spelled_event, mark_of}
+use Rattle.log_stream.proofs.Vocabulary.{AppendsPart, Event, on_err_from, List, [], subst, ◌++◌, ◌∷◌, ap, ◌∙◌, decimal, flat_map, entry_names as names_of, spelled_event, mark_of}
 use Rattle.log_stream.proofs.TextFronts.{part_in_line}
 use Rattle.log_stream.proofs.lines.write_step.Goals as goal
 

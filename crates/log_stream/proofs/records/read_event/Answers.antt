@@ -1,7 +1,5 @@
-use Rattle.log_stream.proofs.Vocabulary.{ap, refl, sym, subst, ◌∙◌, ◌++◌, ◌∷◌, [], IsOk, List, Bor}
-use Rattle.log_stream.proofs.Vocabulary.{option_or, Event, NameId, Sort, err_from_is_err_and, Events}
-use Rattle.log_stream.proofs.RecordParts.{event_placed, event_with_bad_row, event_without_name, event_without_open}
-use Rattle.log_stream.proofs.RecordParts.{fails_bad, still_refused, unknown_placed}
+use Rattle.log_stream.proofs.Vocabulary.{ap, refl, sym, subst, ◌∙◌, ◌++◌, ◌∷◌, [], IsOk, List, Bor, option_or, Event, NameId, Sort, err_from_is_err_and, Events}
+use Rattle.log_stream.proofs.RecordParts.{event_placed, event_with_bad_row, event_without_name, event_without_open, fails_bad, still_refused, unknown_placed}
 use Rattle.log_stream.proofs.records.read_event.Goals.{in-Some-declared, in-None}
 use Rattle.log_stream.proofs.records.read_event.Goals as goal
 

@@ -1,6 +1,5 @@
 use Rattle.log_stream.proofs.Vocabulary.{[], arith, subst, err_from_is_err_and, Events, so_far}
-use Rattle.log_stream.proofs.RecordParts.{AreEventsSoFar, events_done, events_more, events_start, events_too_many}
-use Rattle.log_stream.proofs.RecordParts.{events_with_bad_event, fails_bad, none_ends}
+use Rattle.log_stream.proofs.RecordParts.{AreEventsSoFar, events_done, events_more, events_start, events_too_many, events_with_bad_event, fails_bad, none_ends}
 use Rattle.log_stream.proofs.records.read_events.Goals as goal
 
 pub returns-then-ends_here-clause-ok : goal.returns-then-ends_here-clause-ok

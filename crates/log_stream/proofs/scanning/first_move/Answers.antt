@@ -1,6 +1,4 @@
-use Rattle.log_stream.proofs.Vocabulary.{◌≡◌, ◌==◌, ℕ, false, true, refl, ap, ◌∙◌, arith, slice_index}
-use Rattle.log_stream.proofs.Vocabulary.{if◌then◌else◌, nat_tests, true_from_eq, is_byte2, Outside, Inside}
-use Rattle.log_stream.proofs.Vocabulary.{Escaped}
+use Rattle.log_stream.proofs.Vocabulary.{◌≡◌, ◌==◌, ℕ, false, true, refl, ap, ◌∙◌, arith, slice_index, if◌then◌else◌, nat_tests, true_from_eq, is_byte2, Outside, Inside, Escaped}
 use Rattle.log_stream.proofs.Scans.{inside_stays, other_byte, outside_stays, turns_end, turns_nowhere, turns_to}
 use Rattle.log_stream.proofs.scanning.first_move.Goals as goal
 

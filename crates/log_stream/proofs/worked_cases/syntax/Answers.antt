@@ -1,5 +1,4 @@
-use Rattle.log_stream.proofs.Vocabulary.{◌≡◌, pos, [], ◌∷◌, inl, inr, refl, arith, codes, ValueTokenAt, Num}
-use Rattle.log_stream.proofs.Vocabulary.{System, RecordStart, RecordMarked, LogMark, Input, TraceLog}
+use Rattle.log_stream.proofs.Vocabulary.{◌≡◌, pos, [], ◌∷◌, inl, inr, refl, arith, codes, ValueTokenAt, Num, System, RecordStart, RecordMarked, LogMark, Input, TraceLog}
 use Rattle.log_stream.proofs.TokensByFirstByte.{BeginsValue, value_first}
 use Rattle.log_stream.proofs.PrintedTokens.{gap_none, gap_space}
 use Rattle.log_stream.proofs.ReadParts.{bad_behind, bad_here, is_bad, stuck_marked, stuck_start}

@@ -1,6 +1,4 @@
-use Rattle.monitorable_guard.proofs.Vocabulary.{◌≡◌, ◌≢◌, ℕ, ◌<◌, ◌-◌, ◌==◌, false, List}
-use Rattle.monitorable_guard.proofs.Vocabulary.{◌∷◌, length, take, drop, arith, sym, subst, ◌∙◌, eqb-false}
-use Rattle.monitorable_guard.proofs.Vocabulary.{take_rest, MatchOption-at_some, IsLeastFor}
+use Rattle.monitorable_guard.proofs.Vocabulary.{◌≡◌, ◌≢◌, ℕ, ◌<◌, ◌-◌, ◌==◌, false, List, ◌∷◌, length, take, drop, arith, sym, subst, ◌∙◌, eqb-false, take_rest, MatchOption-at_some, IsLeastFor}
 use Rattle.monitorable_guard.proofs.MatchLemmas.{first_of, some_from, none_from}
 use Rattle.monitorable_guard.proofs.atom_matches.+matched_all.Goals as goal
 

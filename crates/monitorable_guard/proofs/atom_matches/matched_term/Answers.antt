@@ -1,5 +1,4 @@
-use Rattle.monitorable_guard.proofs.Vocabulary.{◌≡◌, None, ap, sym, subst, ◌∙◌, option_copied, value_at}
-use Rattle.monitorable_guard.proofs.Vocabulary.{IsLeastFor}
+use Rattle.monitorable_guard.proofs.Vocabulary.{◌≡◌, None, ap, sym, subst, ◌∙◌, option_copied, value_at, IsLeastFor}
 use Rattle.monitorable_guard.proofs.MatchLemmas.{bound_least}
 use Rattle.std.specs.FinMap as finite
 use Rattle.monitorable_guard.proofs.atom_matches.matched_term.Goals as goal

@@ -1,6 +1,4 @@
-use Rattle.monitorable_guard.proofs.Vocabulary.{List, sym, subst, take_all, Event, Value, Valuation, Contains-map}
-use Rattle.monitorable_guard.proofs.Vocabulary.{Contains-from_map, AddsRows, IsMatchOf, IsMatchAmong, shown_events}
-use Rattle.monitorable_guard.proofs.Vocabulary.{bound_in}
+use Rattle.monitorable_guard.proofs.Vocabulary.{List, sym, subst, take_all, Event, Value, Valuation, Contains-map, Contains-from_map, AddsRows, IsMatchOf, IsMatchAmong, shown_events, bound_in}
 use Rattle.std.proofs.Common.{Bor}
 use Rattle.monitorable_guard.proofs.RowsLemmas.{SomeOf, adds_as, adds_more}
 use Rattle.monitorable_guard.proofs.atoms.gather_events.Goals as goal

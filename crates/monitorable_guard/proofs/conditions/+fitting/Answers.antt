@@ -1,5 +1,4 @@
-use Rattle.monitorable_guard.proofs.Vocabulary.{◌≡◌, [], ◌∷◌, refl, sym, subst, ⊎_elim, IfOk, IsTrue}
-use Rattle.monitorable_guard.proofs.Vocabulary.{◌↔◌, tree_of, FitOperators, outermost}
+use Rattle.monitorable_guard.proofs.Vocabulary.{◌≡◌, [], ◌∷◌, refl, sym, subst, ⊎_elim, IfOk, IsTrue, ◌↔◌, tree_of, FitOperators, outermost}
 use Rattle.monitorable_guard.proofs.ConditionLemmas.{fit_alike}
 use Rattle.monitorable_guard.proofs.CycleLemmas.{fit_short}
 use Rattle.monitorable_guard.proofs.DecisionLemmas.{decides_alike}

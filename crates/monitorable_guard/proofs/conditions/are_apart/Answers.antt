@@ -1,5 +1,4 @@
-use Rattle.monitorable_guard.proofs.Vocabulary.{refl, sym, ◌∙◌, subst, All, Contains, false≢true, take_all}
-use Rattle.monitorable_guard.proofs.Vocabulary.{All-more, All-contains, Contains-get_or}
+use Rattle.monitorable_guard.proofs.Vocabulary.{refl, sym, ◌∙◌, subst, All, Contains, false≢true, take_all, All-more, All-contains, Contains-get_or}
 use Rattle.monitorable_guard.proofs.conditions.are_apart.Goals as goal
 
 pub returns-then-is_in : goal.returns-then-is_in

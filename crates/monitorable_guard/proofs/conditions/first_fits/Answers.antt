@@ -1,5 +1,4 @@
-use Rattle.monitorable_guard.proofs.Vocabulary.{All, Contains, ◌↔◌, IsTrue, sym, subst, ◌∙◌, tree_of}
-use Rattle.monitorable_guard.proofs.Vocabulary.{AreFreeVariables}
+use Rattle.monitorable_guard.proofs.Vocabulary.{All, Contains, ◌↔◌, IsTrue, sym, subst, ◌∙◌, tree_of, AreFreeVariables}
 use Rattle.monitorable_guard.proofs.ConditionLemmas.{first_decided}
 use Rattle.monitorable_guard.proofs.conditions.first_fits.Goals as goal
 

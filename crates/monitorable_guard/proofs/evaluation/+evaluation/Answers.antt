@@ -1,26 +1,16 @@
-use Rattle.monitorable_guard.proofs.Vocabulary.{◌≡◌, ◌+◌, ◌<◌, inl, inr, ⊎_elim, List, [], ◌++◌}
-use Rattle.monitorable_guard.proofs.Vocabulary.{length, get_or, drop, ◌≤◌, IsTrue, Contains, Fits, w64, IfOk}
-use Rattle.monitorable_guard.proofs.Vocabulary.{◌↔◌, refl, sym, ap, subst, ◌∙◌, arith, rules, false≢true}
-use Rattle.monitorable_guard.proofs.Vocabulary.{take_all, IfOk-weaker, Atom, Equal, Exists, Historically, tree_of}
-use Rattle.monitorable_guard.proofs.Vocabulary.{rising_distinct, Valuation, variable_cmp_total, Value, Var, AddsRows}
-use Rattle.monitorable_guard.proofs.Vocabulary.{AreBoundOrFree, IsGuardAnswer, IsBoundBy, IsEquated, IsFromRow}
-use Rattle.monitorable_guard.proofs.Vocabulary.{IsMatchAmong, CanAskFormula, shown_events, HoldsNow, FirstHas}
-use Rattle.monitorable_guard.proofs.Vocabulary.{outermost, tables_beyond, FreeWithin, none_in_nil, bound_in}
-use Rattle.monitorable_guard.proofs.Vocabulary.{filled_from_row}
-use Rattle.monitorable_guard.proofs.PartLemmas.{ask_not, ask_and_left, ask_and_right, ask_or_left, ask_or_right}
-use Rattle.monitorable_guard.proofs.PartLemmas.{ask_implies_left, ask_implies_right, ask_exists, ask_none, ask_range}
-use Rattle.monitorable_guard.proofs.PartLemmas.{ask_nested, and_anywhere, or_anywhere, binds_itself}
-use Rattle.monitorable_guard.proofs.CycleLemmas.{closed_where_none, none_where_closed, open_scope, added_fit}
-use Rattle.monitorable_guard.proofs.CycleLemmas.{ok_answers, ok_open, some_answer, fit_places, closed_scope, adds_test}
-use Rattle.monitorable_guard.proofs.CycleLemmas.{one_side, ok_decides, ok_either, ok_forall, ok_nested, ok_each}
-use Rattle.monitorable_guard.proofs.CycleLemmas.{ok_both, ok_second, ok_where, not_decides, none_equal, fits_from}
-use Rattle.monitorable_guard.proofs.CycleLemmas.{fit_place, fit_first, each_more}
-use Rattle.monitorable_guard.proofs.EvaluationLemmas.{atom_to, atom_from, equal_to, equal_from, exists_to, exists_from}
-use Rattle.monitorable_guard.proofs.EvaluationLemmas.{exists_decided, none_decided, past_to, past_from}
+use Rattle.monitorable_guard.proofs.Vocabulary.{◌≡◌, ◌+◌, ◌<◌, inl, inr, ⊎_elim, List, [], ◌++◌, length, get_or, drop, ◌≤◌, IsTrue, Contains, Fits, w64, IfOk, ◌↔◌, refl, sym, ap, subst, ◌∙◌, arith}
+use Rattle.monitorable_guard.proofs.Vocabulary.{rules, false≢true, take_all, IfOk-weaker, Atom, Equal, Exists, Historically, tree_of, rising_distinct, Valuation, variable_cmp_total, Value, Var}
+use Rattle.monitorable_guard.proofs.Vocabulary.{AddsRows, AreBoundOrFree, IsGuardAnswer, IsBoundBy, IsEquated, IsFromRow, IsMatchAmong, CanAskFormula, shown_events, HoldsNow, FirstHas, outermost}
+use Rattle.monitorable_guard.proofs.Vocabulary.{tables_beyond, FreeWithin, none_in_nil, bound_in, filled_from_row}
+use Rattle.monitorable_guard.proofs.PartLemmas.{ask_not, ask_and_left, ask_and_right, ask_or_left, ask_or_right, ask_implies_left, ask_implies_right, ask_exists, ask_none, ask_range, ask_nested}
+use Rattle.monitorable_guard.proofs.PartLemmas.{and_anywhere, or_anywhere, binds_itself}
+use Rattle.monitorable_guard.proofs.CycleLemmas.{closed_where_none, none_where_closed, open_scope, added_fit, ok_answers, ok_open, some_answer, fit_places, closed_scope, adds_test, one_side}
+use Rattle.monitorable_guard.proofs.CycleLemmas.{ok_decides, ok_either, ok_forall, ok_nested, ok_each, ok_both, ok_second, ok_where, not_decides, none_equal, fits_from, fit_place, fit_first}
+use Rattle.monitorable_guard.proofs.CycleLemmas.{each_more}
+use Rattle.monitorable_guard.proofs.EvaluationLemmas.{atom_to, atom_from, equal_to, equal_from, exists_to, exists_from, exists_decided, none_decided, past_to, past_from}
 use Rattle.monitorable_guard.proofs.KindLemmas.{closed_kind, below_kind}
 use Rattle.monitorable_guard.proofs.PastLemmas.{told_fit, told_holds, given_columns}
-use Rattle.monitorable_guard.proofs.PairLemmas.{both_ask, both_scope, adds_both_parts, either_ask, either_scope}
-use Rattle.monitorable_guard.proofs.PairLemmas.{adds_either_part, each_ask, each_closed, each_decided, next_tables}
+use Rattle.monitorable_guard.proofs.PairLemmas.{both_ask, both_scope, adds_both_parts, either_ask, either_scope, adds_either_part, each_ask, each_closed, each_decided, next_tables}
 use Rattle.monitorable_guard.proofs.RowsLemmas.{SomeOf, adds_as, adds_more, adds_nothing, on_ok}
 use Rattle.monitorable_guard.proofs.evaluation.+evaluation.Goals as goal
 
@@ -250,19 +240,19 @@ has_answer-returns g t c =
 pub gather_open-gather_events-requires : goal.gather_open-gather_events-requires
 gather_open-gather_events-requires g t c =
     let within = rw (c.in-Atom.is) at c.requires.within in
-    λ x there. ⊎_elim (λ bound. inl bound) (λ free. inr (subst (λ l. Contains l (Var x)) (sym c.as_slice.ensures) free)) (within x there)
+    λ x there. ⊎_elim (λ bound. inl bound) (λ free. inr (subst (λ l. Contains l (Var x)) (sym c.as_slice-terms.ensures) free)) (within x there)
 
 pub gather_open-returns-in-Atom : goal.gather_open-returns-in-Atom
 gather_open-returns-in-Atom g t c =
-    rw (c.in-Atom.is, ← c.as_slice.ensures)
+    rw (c.in-Atom.is, ← c.as_slice-terms.ensures)
     (on_ok c.gather_events.result _ _
-    (adds_as c.args.columns.now _ _ (IsMatchAmong (shown_events c.named-events.result.now) c.as_slice.result.now (bound_in c.args.scope.now) c.args.columns.now)
+    (adds_as c.args.columns.now _ _ (IsMatchAmong (shown_events c.under-events.result.now) c.as_slice-terms.result.now (bound_in c.args.scope.now) c.args.columns.now)
     (IsGuardAnswer c.args.present.now.events.now (drop c.args.first (g.P.Past.tables c.args.present.now.past.now)) (bound_in c.args.scope.now)
-    (Atom c.in-Atom.field-0 c.in-Atom.name c.as_slice.result.now) c.args.columns.now)
+    (Atom c.in-Atom.field-0 c.in-Atom.name c.as_slice-terms.result.now) c.args.columns.now)
     (atom_to c.args.present.now.events.now (drop c.args.first (g.P.Past.tables c.args.present.now.past.now)) (bound_in c.args.scope.now) c.in-Atom.field-0 c.in-Atom.name
-    c.as_slice.result.now (shown_events c.named-events.result.now) c.named-events.ensures c.args.columns.now)
+    c.as_slice-terms.result.now (shown_events c.under-events.result.now) c.under-events.ensures c.args.columns.now)
     (λ w answer none. none (atom_from c.args.present.now.events.now (drop c.args.first (g.P.Past.tables c.args.present.now.past.now)) (bound_in c.args.scope.now) c.in-Atom.field-0
-    c.in-Atom.name c.as_slice.result.now (shown_events c.named-events.result.now) c.named-events.ensures c.args.columns.now w answer)))
+    c.in-Atom.name c.as_slice-terms.result.now (shown_events c.under-events.result.now) c.under-events.ensures c.args.columns.now w answer)))
     c.gather_events.ensures)
 
 pub gather_open-gather_equal-requires-clause-one : goal.gather_open-gather_equal-requires-clause-one

@@ -1,5 +1,4 @@
-use Rattle.monitorable_guard.proofs.Vocabulary.{◌+◌, ◌*◌, List, drop, take, Contains, tree_of, formula_size}
-use Rattle.monitorable_guard.proofs.Vocabulary.{Value, bound_in, filled_from_row, AddsRows, IsGuardAnswer, HoldsNow}
+use Rattle.monitorable_guard.proofs.Vocabulary.{◌+◌, ◌*◌, List, drop, take, Contains, tree_of, formula_size, Value, bound_in, filled_from_row, AddsRows, IsGuardAnswer, HoldsNow}
 use Rattle.monitorable_guard.proofs.RowsLemmas.{SomeOf}
 use Rattle.monitorable_guard.proofs.evaluation.+evaluation.Given as goal
 

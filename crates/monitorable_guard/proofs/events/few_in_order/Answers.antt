@@ -1,7 +1,5 @@
-use Rattle.monitorable_guard.proofs.Vocabulary.{rules, ◌≡◌, ◌≤◌, ◌++◌, arith, drop, length, take, sym}
-use Rattle.monitorable_guard.proofs.Vocabulary.{subst, ◌∙◌, is_lt, always_returns_same, take-append_seam}
-use Rattle.monitorable_guard.proofs.Vocabulary.{take-length, length-take-le, ranks_by, key_of, event_cmp, shown_events}
-use Rattle.monitorable_guard.proofs.Vocabulary.{IsByName}
+use Rattle.monitorable_guard.proofs.Vocabulary.{rules, ◌≡◌, ◌≤◌, ◌++◌, arith, drop, length, take, sym, subst, ◌∙◌, is_lt, always_returns_same, take-append_seam, take-length, length-take-le, ranks_by}
+use Rattle.monitorable_guard.proofs.Vocabulary.{key_of, event_cmp, shown_events, IsByName}
 use Rattle.monitorable_guard.proofs.EventLemmas.{event_cmp_total, sorted_by_name}
 use Rattle.monitorable_guard.proofs.events.few_in_order.Goals as goal
 

@@ -1,5 +1,4 @@
-use Rattle.monitorable_guard.proofs.Vocabulary.{rules, ◌∙◌, is_lt, always_returns_same, take_all, ranks_by}
-use Rattle.monitorable_guard.proofs.Vocabulary.{key_of, event_cmp}
+use Rattle.monitorable_guard.proofs.Vocabulary.{rules, ◌∙◌, is_lt, always_returns_same, take_all, ranks_by, key_of, event_cmp}
 use Rattle.monitorable_guard.proofs.EventLemmas.{event_cmp_total, sorted_by_name}
 use Rattle.monitorable_guard.proofs.events.many_in_order.Goals as goal
 

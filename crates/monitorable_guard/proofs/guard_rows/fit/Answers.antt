@@ -1,5 +1,4 @@
-use Rattle.monitorable_guard.proofs.Vocabulary.{◌≡◌, All, List, length, subst, Bor, take_all, All-map, Event}
-use Rattle.monitorable_guard.proofs.Vocabulary.{Value}
+use Rattle.monitorable_guard.proofs.Vocabulary.{◌≡◌, All, List, length, subst, Bor, take_all, All-map, Event, Value}
 use Rattle.monitorable_guard.proofs.guard_rows.fit.Goals as goal
 
 pub returns : goal.returns

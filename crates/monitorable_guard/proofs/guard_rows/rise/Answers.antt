@@ -1,5 +1,4 @@
-use Rattle.monitorable_guard.proofs.Vocabulary.{rules, ◌≡◌, subst, IsAllAdjacentAnswer, is_lt}
-use Rattle.monitorable_guard.proofs.Vocabulary.{always_returns_same, row_cmp}
+use Rattle.monitorable_guard.proofs.Vocabulary.{rules, ◌≡◌, subst, IsAllAdjacentAnswer, is_lt, always_returns_same, row_cmp}
 use Rattle.monitorable_guard.proofs.EventRowLemmas.{arguments_rise}
 use Rattle.monitorable_guard.proofs.guard_rows.rise.Goals as goal
 

@@ -1,6 +1,5 @@
-use Rattle.monitorable_guard.proofs.Vocabulary.{sym, subst, Contains, IsSome, refl, ◌∙◌, Valuation, with_values}
-use Rattle.monitorable_guard.proofs.Vocabulary.{agrees_once, cell_some, table_row-length, value_at-with_inside}
-use Rattle.monitorable_guard.proofs.Vocabulary.{value_at-with_outside, AgreesWithRow}
+use Rattle.monitorable_guard.proofs.Vocabulary.{sym, subst, Contains, IsSome, refl, ◌∙◌, Valuation, with_values, agrees_once, cell_some, table_row-length, value_at-with_inside, value_at-with_outside}
+use Rattle.monitorable_guard.proofs.Vocabulary.{AgreesWithRow}
 use Rattle.monitorable_guard.proofs.laws.evaluated_are_rows.Goals as goal
 
 pub returns : goal.returns

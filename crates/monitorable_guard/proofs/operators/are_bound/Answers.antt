@@ -1,6 +1,5 @@
-use Rattle.monitorable_guard.proofs.Vocabulary.{◌≡◌, refl, subst, ap, ◌∙◌, All, Option, None, Some, is_some}
-use Rattle.monitorable_guard.proofs.Vocabulary.{true, not, IsSome, option_copied, false≢true, take_all, All-more}
-use Rattle.monitorable_guard.proofs.Vocabulary.{All-contains, Value, IsBoundBy}
+use Rattle.monitorable_guard.proofs.Vocabulary.{◌≡◌, refl, subst, ap, ◌∙◌, All, Option, None, Some, is_some, true, not, IsSome, option_copied, false≢true, take_all, All-more, All-contains, Value}
+use Rattle.monitorable_guard.proofs.Vocabulary.{IsBoundBy}
 use Rattle.std.proofs.Common.{Bor}
 use Rattle.monitorable_guard.proofs.operators.are_bound.Goals as goal
 

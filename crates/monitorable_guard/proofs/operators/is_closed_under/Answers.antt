@@ -1,6 +1,4 @@
-use Rattle.monitorable_guard.proofs.Vocabulary.{List, IfOk, Contains, IsTrue, ◌↔◌, ◌≡◌, ◌∙◌, subst}
-use Rattle.monitorable_guard.proofs.Vocabulary.{sym, tree_of, Value, there_from_get, bound_in, filled_from_row}
-use Rattle.monitorable_guard.proofs.Vocabulary.{IsBoundBy, FreeWithin}
+use Rattle.monitorable_guard.proofs.Vocabulary.{List, IfOk, Contains, IsTrue, ◌↔◌, ◌≡◌, ◌∙◌, subst, sym, tree_of, Value, there_from_get, bound_in, filled_from_row, IsBoundBy, FreeWithin}
 use Rattle.monitorable_guard.proofs.CycleLemmas.{ok_alike}
 use Rattle.monitorable_guard.proofs.operators.is_closed_under.Goals as goal
 

@@ -1,7 +1,5 @@
-use Rattle.monitorable_guard.proofs.Vocabulary.{List, not, sym, ap, subst, ◌∙◌, take_all}
-use Rattle.monitorable_guard.proofs.Vocabulary.{IsStrictlySortedBy-filter, Formula, AreFreeVariables, tree_of}
-use Rattle.monitorable_guard.proofs.Vocabulary.{variable_cmp, VarId, in_not_shared, not_shared_in, is_column}
-use Rattle.monitorable_guard.proofs.Vocabulary.{columns_unshared, AreOpen}
+use Rattle.monitorable_guard.proofs.Vocabulary.{List, not, sym, ap, subst, ◌∙◌, take_all, IsStrictlySortedBy-filter, Formula, AreFreeVariables, tree_of, variable_cmp, VarId, in_not_shared}
+use Rattle.monitorable_guard.proofs.Vocabulary.{not_shared_in, is_column, columns_unshared, AreOpen}
 use Rattle.monitorable_guard.proofs.operators.open_beside.Goals as goal
 
 beside : (f : Formula) (bound free : List VarId) → AreFreeVariables f free → AreOpen f bound (columns_unshared bound free)

@@ -1,8 +1,5 @@
-use Rattle.monitorable_guard.proofs.Vocabulary.{◌≡◌, List, Option, None, Some, is_none, IsSome, true, refl, sym}
-use Rattle.monitorable_guard.proofs.Vocabulary.{ap, subst, ◌∙◌, false≢true, IsStrictlySortedBy-filter, filter}
-use Rattle.monitorable_guard.proofs.Vocabulary.{Formula, AreFreeVariables, tree_of, Valuation, value_at, variable_cmp}
-use Rattle.monitorable_guard.proofs.Vocabulary.{VarId, Value, Contains-filter, Contains-from_filter, AreOpenUnder}
-use Rattle.monitorable_guard.proofs.Vocabulary.{bound_in}
+use Rattle.monitorable_guard.proofs.Vocabulary.{◌≡◌, List, Option, None, Some, is_none, IsSome, true, refl, sym, ap, subst, ◌∙◌, false≢true, IsStrictlySortedBy-filter, filter, Formula}
+use Rattle.monitorable_guard.proofs.Vocabulary.{AreFreeVariables, tree_of, Valuation, value_at, variable_cmp, VarId, Value, Contains-filter, Contains-from_filter, AreOpenUnder, bound_in}
 use Rattle.monitorable_guard.proofs.operators.open_variables.Goals as goal
 
 apart : (o : Option Value) → IsSome o → is_none o ≡ true → ⊥

@@ -1,9 +1,6 @@
-use Rattle.monitorable_guard.proofs.Vocabulary.{◌↔◌, [], ◌∙◌, inl, inr, ⊎_elim, sym, subst, Contains}
-use Rattle.monitorable_guard.proofs.Vocabulary.{IsTrue, IfOk, tree_of, Safe, FreeWithin, BoundOrFreeIn, NoneBound}
-use Rattle.monitorable_guard.proofs.Vocabulary.{denial}
+use Rattle.monitorable_guard.proofs.Vocabulary.{◌↔◌, [], ◌∙◌, inl, inr, ⊎_elim, sym, subst, Contains, IsTrue, IfOk, tree_of, Safe, FreeWithin, BoundOrFreeIn, NoneBound, denial}
 use Rattle.monitorable_guard.proofs.SafetyLemmas.{historically_denial}
-use Rattle.monitorable_guard.proofs.DecisionLemmas.{decides_alike, decides_second, safe_by_itself, safe_alike}
-use Rattle.monitorable_guard.proofs.DecisionLemmas.{nothing_listed, pair_alike, test_alike, denial_else}
+use Rattle.monitorable_guard.proofs.DecisionLemmas.{decides_alike, decides_second, safe_by_itself, safe_alike, nothing_listed, pair_alike, test_alike, denial_else}
 use Rattle.monitorable_guard.proofs.safety.+safety.Goals as goal
 
 pub is_safe-returns-in-Not : goal.is_safe-returns-in-Not

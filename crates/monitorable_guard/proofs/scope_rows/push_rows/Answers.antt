@@ -1,6 +1,5 @@
-use Rattle.monitorable_guard.proofs.Vocabulary.{◌≡◌, ◌<◌, ◌≤◌, List, length, get_or, Contains, sym}
-use Rattle.monitorable_guard.proofs.Vocabulary.{subst, ◌∙◌, take_all, Value, Valuation, table_row-length}
-use Rattle.monitorable_guard.proofs.Vocabulary.{bound_in, filled_from_row, AgreeOnColumns, AddsRows, IsBoundBy}
+use Rattle.monitorable_guard.proofs.Vocabulary.{◌≡◌, ◌<◌, ◌≤◌, List, length, get_or, Contains, sym, subst, ◌∙◌, take_all, Value, Valuation, table_row-length, bound_in, filled_from_row, AgreeOnColumns}
+use Rattle.monitorable_guard.proofs.Vocabulary.{AddsRows, IsBoundBy}
 use Rattle.monitorable_guard.proofs.EvaluationLemmas.{filled_binds}
 use Rattle.monitorable_guard.proofs.RowsLemmas.{SomeOf, adds_more}
 use Rattle.monitorable_guard.proofs.scope_rows.push_rows.Goals as goal

@@ -1,5 +1,4 @@
-use Rattle.monitorable_guard.proofs.Vocabulary.{inl, ⊎_elim, [], ◌∷◌, refl, sym, Var, only_variable, variable_x}
-use Rattle.monitorable_guard.proofs.Vocabulary.{none_in_nil, here, later, guard_case_y}
+use Rattle.monitorable_guard.proofs.Vocabulary.{inl, ⊎_elim, [], ◌∷◌, refl, sym, Var, only_variable, variable_x, none_in_nil, here, later, guard_case_y}
 use Rattle.monitorable_guard.proofs.CaseLemmas.{x_is_not_y}
 use Rattle.monitorable_guard.proofs.worked_cases.not_safe.Goals as goal
 

@@ -1,6 +1,5 @@
-use Rattle.monitorable_guard.proofs.Vocabulary.{inl, inr, ⊎_elim, subst, [], ◌∷◌, Contains, Var, VarId}
-use Rattle.monitorable_guard.proofs.Vocabulary.{only_variable, variable_is, only_item as alone, variable_x}
-use Rattle.monitorable_guard.proofs.Vocabulary.{guard_case_y, none_in_nil, first_or_later, here, later}
+use Rattle.monitorable_guard.proofs.Vocabulary.{inl, inr, ⊎_elim, subst, [], ◌∷◌, Contains, Var, VarId, only_variable, variable_is, only_item as alone, variable_x, guard_case_y, none_in_nil}
+use Rattle.monitorable_guard.proofs.Vocabulary.{first_or_later, here, later}
 use Rattle.monitorable_guard.proofs.CaseLemmas.{below, x_is_not_y}
 use Rattle.monitorable_guard.proofs.worked_cases.safe.Goals as goal
 

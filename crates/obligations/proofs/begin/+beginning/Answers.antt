@@ -1,22 +1,14 @@
-use Rattle.obligations.proofs.Vocabulary.{rules, ◌≡◌, ◌<◌, ◌≤◌, List, [], length, take, refl, ⊎_elim}
-use Rattle.obligations.proofs.Vocabulary.{sym, ap, subst, arith, AllByRecursion, option_copied, option_map, take_all}
-use Rattle.obligations.proofs.Vocabulary.{get_or_from_slice_get, on_ok_weaker, Valuation, Value, on_ok_both, tree_of}
-use Rattle.obligations.proofs.Vocabulary.{EndsInTime, nodes, CausePlan, SuppressPlan, Both, Either, UntilPlan, plan_of}
-use Rattle.obligations.proofs.Vocabulary.{bound_in, filled_from_row, AddsAsked, TellsNothing, IsSideTaken, TakesSide}
-use Rattle.obligations.proofs.Vocabulary.{CanAskPlan, CanAskIn, guards_at, Begun, Gathers}
+use Rattle.obligations.proofs.Vocabulary.{rules, ◌≡◌, ◌<◌, ◌≤◌, List, [], length, take, refl, ⊎_elim, sym, ap, subst, arith, AllByRecursion, option_copied, option_map, take_all, get_or_from_slice_get}
+use Rattle.obligations.proofs.Vocabulary.{on_ok_weaker, Valuation, Value, on_ok_both, tree_of, EndsInTime, nodes, CausePlan, SuppressPlan, Both, Either, UntilPlan, plan_of, bound_in, filled_from_row}
+use Rattle.obligations.proofs.Vocabulary.{AddsAsked, TellsNothing, IsSideTaken, TakesSide, CanAskPlan, CanAskIn, guards_at, Begun, Gathers}
 use Rattle.std.specs.Prelude.{true, false, None, ◌+◌}
 use Rattle.obligations.proofs.AdditionLemmas.{body_can, gathers_one_more}
 use Rattle.obligations.proofs.AskablePlanLemmas.{binds_bound, is_test, within}
-use Rattle.obligations.proofs.BegunLemmas.{Puts, all_inside, always_at_once, always_later, asked_both, asked_nothing}
-use Rattle.obligations.proofs.BegunLemmas.{both_begun, left_smaller, right_smaller, eventually_at_once}
-use Rattle.obligations.proofs.BegunLemmas.{eventually_waits, neither_begun, next_begun, rows_begun, side_asked}
-use Rattle.obligations.proofs.BegunLemmas.{side_begun, side_inside, side_smaller, test_begins, test_begins_nothing}
-use Rattle.obligations.proofs.BegunLemmas.{until_at_once, until_waits}
+use Rattle.obligations.proofs.BegunLemmas.{Puts, all_inside, always_at_once, always_later, asked_both, asked_nothing, both_begun, left_smaller, right_smaller, eventually_at_once, eventually_waits}
+use Rattle.obligations.proofs.BegunLemmas.{neither_begun, next_begun, rows_begun, side_asked, side_begun, side_inside, side_smaller, test_begins, test_begins_nothing, until_at_once, until_waits}
 use Rattle.obligations.proofs.WantedLiteralLemmas.{in_left, in_right}
-use Rattle.obligations.proofs.begin.+beginning.Goals.{begin_later-else-low-eq0-via-then-low-eq0+in_ok-misses_nothing-in-Eventually+else-branch}
-use Rattle.obligations.proofs.begin.+beginning.Goals.{begin_later-else-low-eq0-via-else-low-eq0}
-use Rattle.obligations.proofs.begin.+beginning.Goals.{begin_later-else-low-eq0-2-via-then-low-eq0-2+in_ok-misses_nothing-in-Until+else-branch-2}
-use Rattle.obligations.proofs.begin.+beginning.Goals.{begin_later-else-low-eq0-2-via-else-low-eq0-2}
+use Rattle.obligations.proofs.begin.+beginning.Goals.{begin_later-else-low-eq0-via-then-low-eq0+in_ok-misses_nothing-in-Eventually+else-branch, begin_later-else-low-eq0-via-else-low-eq0}
+use Rattle.obligations.proofs.begin.+beginning.Goals.{begin_later-else-low-eq0-2-via-then-low-eq0-2+in_ok-misses_nothing-in-Until+else-branch-2, begin_later-else-low-eq0-2-via-else-low-eq0-2}
 use Rattle.obligations.proofs.begin.+beginning.Goals as goal
 
 pub begin_behind-begin_behind-requires-in-Both : goal.begin_behind-begin_behind-requires-in-Both

@@ -1,5 +1,4 @@
-use Rattle.obligations.proofs.Vocabulary.{◌≡◌, ◌+◌, ◌*◌, [], length, take, nodes, plan_of, bound_in}
-use Rattle.obligations.proofs.Vocabulary.{filled_from_row, AddsAsked, Begun, Gathers}
+use Rattle.obligations.proofs.Vocabulary.{◌≡◌, ◌+◌, ◌*◌, [], length, take, nodes, plan_of, bound_in, filled_from_row, AddsAsked, Begun, Gathers}
 use Rattle.obligations.proofs.begin.+beginning.Given as goal
 
 abbrev pub decreases-begin_behind : goal.decreases-begin_behind

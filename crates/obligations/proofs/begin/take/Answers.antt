@@ -1,5 +1,4 @@
-use Rattle.obligations.proofs.Vocabulary.{◌≡◌, ◌++◌, List, sym, ap, subst, ◌∙◌, AllByRecursion}
-use Rattle.obligations.proofs.Vocabulary.{guards_at, CanAskOf, Instance}
+use Rattle.obligations.proofs.Vocabulary.{◌≡◌, ◌++◌, List, sym, ap, subst, ◌∙◌, AllByRecursion, guards_at, CanAskOf, Instance}
 use Rattle.obligations.proofs.begin.take.Goals as goal
 
 pub returns-clause-asked : goal.returns-clause-asked

@@ -1,5 +1,4 @@
-use Rattle.obligations.proofs.Vocabulary.{◌≡◌, ◌<◌, ◌≤◌, List, length, get_or, map, ap, arith, subst}
-use Rattle.obligations.proofs.Vocabulary.{sym, AllByRecursion, take_all, Event, NameId, all_at}
+use Rattle.obligations.proofs.Vocabulary.{◌≡◌, ◌<◌, ◌≤◌, List, length, get_or, map, ap, arith, subst, sym, AllByRecursion, take_all, Event, NameId, all_at}
 use Rattle.obligations.proofs.ItemLemmas.{all_one_more}
 use Rattle.obligations.proofs.empty_guards.has_named.Goals as goal
 

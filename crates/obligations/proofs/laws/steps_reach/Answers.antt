@@ -1,5 +1,4 @@
-use Rattle.obligations.proofs.TriggeredNodeLemmas.{begun_is_named, begun_is_reached, missed_is_reached}
-use Rattle.obligations.proofs.TriggeredNodeLemmas.{reached_is_inside}
+use Rattle.obligations.proofs.TriggeredNodeLemmas.{begun_is_named, begun_is_reached, missed_is_reached, reached_is_inside}
 use Rattle.obligations.proofs.laws.steps_reach.Goals as goal
 
 pub returns-clause-missed : goal.returns-clause-missed

@@ -1,5 +1,4 @@
-use Rattle.obligations.proofs.Vocabulary.{true≢false, Contains, sym, subst, ◌∙◌, on_ok_weaker, IsEventAmong}
-use Rattle.obligations.proofs.Vocabulary.{values_of_terms, bound_in, cause_literal}
+use Rattle.obligations.proofs.Vocabulary.{true≢false, Contains, sym, subst, ◌∙◌, on_ok_weaker, IsEventAmong, values_of_terms, bound_in, cause_literal}
 use Rattle.obligations.proofs.LeafLemmas.{one_pushed}
 use Rattle.obligations.proofs.leaves.push_cause.Goals as goal
 

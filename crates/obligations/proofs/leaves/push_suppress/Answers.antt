@@ -1,5 +1,4 @@
-use Rattle.obligations.proofs.Vocabulary.{true≢false, None, Contains, sym, subst, ◌∙◌, append-nil, on_ok_weaker}
-use Rattle.obligations.proofs.Vocabulary.{IsEventAmong, values_of_terms, bound_in, suppress_literal}
+use Rattle.obligations.proofs.Vocabulary.{true≢false, None, Contains, sym, subst, ◌∙◌, append-nil, on_ok_weaker, IsEventAmong, values_of_terms, bound_in, suppress_literal}
 use Rattle.obligations.proofs.LeafLemmas.{nothing_suppressed, one_pushed}
 use Rattle.obligations.proofs.leaves.push_suppress.Goals as goal
 

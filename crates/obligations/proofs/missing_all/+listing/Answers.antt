@@ -1,18 +1,12 @@
-use Rattle.obligations.proofs.Vocabulary.{rules, ◌≡◌, ◌<◌, ◌≤◌, List, length, take, inl, inr, sym}
-use Rattle.obligations.proofs.Vocabulary.{subst, arith, take_all, get_or_from_slice_get, on_ok_weaker, there_from_get}
-use Rattle.obligations.proofs.Vocabulary.{Valuation, Value, tree_of, CausePlan, SuppressPlan, Both, Either, TestOr}
-use Rattle.obligations.proofs.Vocabulary.{Guarded, AlwaysPlan, UntilPlan, plan_of, bound_in, filled_from_row, AddsList}
-use Rattle.obligations.proofs.Vocabulary.{AddsOf, TellsNothing, CanAskPlan, CanAskIn, IsWanted, IsWantedUnder}
-use Rattle.obligations.proofs.Vocabulary.{guards_at, Missing, Gathers}
+use Rattle.obligations.proofs.Vocabulary.{rules, ◌≡◌, ◌<◌, ◌≤◌, List, length, take, inl, inr, sym, subst, arith, take_all, get_or_from_slice_get, on_ok_weaker, there_from_get, Valuation, Value}
+use Rattle.obligations.proofs.Vocabulary.{tree_of, CausePlan, SuppressPlan, Both, Either, TestOr, Guarded, AlwaysPlan, UntilPlan, plan_of, bound_in, filled_from_row, AddsList, AddsOf, TellsNothing}
+use Rattle.obligations.proofs.Vocabulary.{CanAskPlan, CanAskIn, IsWanted, IsWantedUnder, guards_at, Missing, Gathers}
 use Rattle.std.specs.Prelude.{true, false, ◌+◌}
-use Rattle.obligations.proofs.AdditionLemmas.{adds_both, body_can, cause_listed, either_nothing, either_right}
-use Rattle.obligations.proofs.AdditionLemmas.{gathers_one_more, rows_listed, suppress_listed, test_body, test_nothing}
-use Rattle.obligations.proofs.AdditionLemmas.{until_left, until_nothing}
+use Rattle.obligations.proofs.AdditionLemmas.{adds_both, body_can, cause_listed, either_nothing, either_right, gathers_one_more, rows_listed, suppress_listed, test_body, test_nothing, until_left}
+use Rattle.obligations.proofs.AdditionLemmas.{until_nothing}
 use Rattle.obligations.proofs.AskablePlanLemmas.{binds_bound, is_test, within}
-use Rattle.obligations.proofs.WantedLiteralLemmas.{adds_found, adds_more, adds_of, cause_wanted, in_body, in_left}
-use Rattle.obligations.proofs.WantedLiteralLemmas.{in_right, suppress_wanted, wanted_in, wanted_under}
-use Rattle.obligations.proofs.missing_all.+listing.Goals.{push_missing-else-low-eq0-via-then-low-eq0+in_ok-misses_nothing-in-Until+else-branch-3}
-use Rattle.obligations.proofs.missing_all.+listing.Goals.{push_missing-else-low-eq0-via-else-low-eq0}
+use Rattle.obligations.proofs.WantedLiteralLemmas.{adds_found, adds_more, adds_of, cause_wanted, in_body, in_left, in_right, suppress_wanted, wanted_in, wanted_under}
+use Rattle.obligations.proofs.missing_all.+listing.Goals.{push_missing-else-low-eq0-via-then-low-eq0+in_ok-misses_nothing-in-Until+else-branch-3, push_missing-else-low-eq0-via-else-low-eq0}
 use Rattle.obligations.proofs.missing_all.+listing.Goals as goal
 
 pub push_missing-returns-then-branch-clause-listed : goal.push_missing-returns-then-branch-clause-listed

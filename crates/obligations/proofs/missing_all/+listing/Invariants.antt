@@ -1,5 +1,4 @@
-use Rattle.obligations.proofs.Vocabulary.{◌+◌, ◌*◌, length, take, nodes, plan_of, bound_in, filled_from_row}
-use Rattle.obligations.proofs.Vocabulary.{AddsList, AddsOf, Missing, Gathers, IsWantedUnder}
+use Rattle.obligations.proofs.Vocabulary.{◌+◌, ◌*◌, length, take, nodes, plan_of, bound_in, filled_from_row, AddsList, AddsOf, Missing, Gathers, IsWantedUnder}
 use Rattle.obligations.proofs.missing_all.+listing.Given as goal
 
 abbrev pub decreases-push_missing : goal.decreases-push_missing

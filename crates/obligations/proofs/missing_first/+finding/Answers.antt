@@ -1,18 +1,13 @@
-use Rattle.obligations.proofs.Vocabulary.{IfSome, not, rules, ◌≡◌, ◌<◌, ◌≤◌, List, [], length, inl, inr}
-use Rattle.obligations.proofs.Vocabulary.{sym, subst, arith, take_all, get_or_from_slice_get, IfOk-weaker, Step, Value}
-use Rattle.obligations.proofs.Vocabulary.{tree_of, Both, Either, TestOr, Guarded, AlwaysPlan, UntilPlan, plan_of}
-use Rattle.obligations.proofs.Vocabulary.{bound_in, filled_from_row, TellsNothing, IsNowOf, CanAskPlan, CanAskIn}
-use Rattle.obligations.proofs.Vocabulary.{IsWanted, IsWantedUnder, guards_at, Missing, Gathers, FirstOf}
+use Rattle.obligations.proofs.Vocabulary.{IfSome, not, rules, ◌≡◌, ◌<◌, ◌≤◌, List, [], length, inl, inr, sym, subst, arith, take_all, get_or_from_slice_get, IfOk-weaker, Step, Value, tree_of, Both}
+use Rattle.obligations.proofs.Vocabulary.{Either, TestOr, Guarded, AlwaysPlan, UntilPlan, plan_of, bound_in, filled_from_row, TellsNothing, IsNowOf, CanAskPlan, CanAskIn, IsWanted, IsWantedUnder}
+use Rattle.obligations.proofs.Vocabulary.{guards_at, Missing, Gathers, FirstOf}
 use Rattle.std.specs.Prelude.{None, Some, false}
 use Rattle.obligations.proofs.AdditionLemmas.{body_can, gathers_one_more}
 use Rattle.obligations.proofs.AskablePlanLemmas.{binds_bound, is_test, leaf_binds, within}
-use Rattle.obligations.proofs.FirstMissingLemmas.{First, cause_first, cause_tells, either_first, gathers_first}
-use Rattle.obligations.proofs.FirstMissingLemmas.{left_first, right_first, rows_first, suppress_first, suppress_tells}
-use Rattle.obligations.proofs.FirstMissingLemmas.{test_first, test_none, until_first}
-use Rattle.obligations.proofs.WantedLiteralLemmas.{cause_wanted, if_some, in_body, in_left, in_right, suppress_wanted}
-use Rattle.obligations.proofs.WantedLiteralLemmas.{wanted_in, wanted_under}
-use Rattle.obligations.proofs.missing_first.+finding.Goals.{find_missing-else-low-eq0-via-then-low-eq0+in_ok-misses_nothing-in-Until+else-branch-3}
-use Rattle.obligations.proofs.missing_first.+finding.Goals.{find_missing-else-low-eq0-via-else-low-eq0}
+use Rattle.obligations.proofs.FirstMissingLemmas.{First, cause_first, cause_tells, either_first, gathers_first, left_first, right_first, rows_first, suppress_first, suppress_tells, test_first}
+use Rattle.obligations.proofs.FirstMissingLemmas.{test_none, until_first}
+use Rattle.obligations.proofs.WantedLiteralLemmas.{cause_wanted, if_some, in_body, in_left, in_right, suppress_wanted, wanted_in, wanted_under}
+use Rattle.obligations.proofs.missing_first.+finding.Goals.{find_missing-else-low-eq0-via-then-low-eq0+in_ok-misses_nothing-in-Until+else-branch-3, find_missing-else-low-eq0-via-else-low-eq0}
 use Rattle.obligations.proofs.missing_first.+finding.Goals as goal
 
 pub find_missing-holds_under-requires-clause-test : goal.find_missing-holds_under-requires-clause-test

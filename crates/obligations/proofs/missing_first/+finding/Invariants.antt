@@ -1,5 +1,4 @@
-use Rattle.obligations.proofs.Vocabulary.{◌+◌, ◌*◌, length, take, [], List, Step, nodes, plan_of, bound_in}
-use Rattle.obligations.proofs.Vocabulary.{filled_from_row, IsNowOf, Missing, Gathers}
+use Rattle.obligations.proofs.Vocabulary.{◌+◌, ◌*◌, length, take, [], List, Step, nodes, plan_of, bound_in, filled_from_row, IsNowOf, Missing, Gathers}
 use Rattle.obligations.proofs.missing_first.+finding.Given as goal
 
 abbrev pub decreases-find_missing : goal.decreases-find_missing

@@ -1,5 +1,4 @@
-use Rattle.obligations.proofs.Vocabulary.{IfSome, option_copied, option_map, ◌∙◌, sym, subst, ap, IfOk-weaker}
-use Rattle.obligations.proofs.Vocabulary.{plan_of, IsWanted, IsWantedOf, node_of, AsksPartOrNothing, AsksPart}
+use Rattle.obligations.proofs.Vocabulary.{IfSome, option_copied, option_map, ◌∙◌, sym, subst, ap, IfOk-weaker, plan_of, IsWanted, IsWantedOf, node_of, AsksPartOrNothing, AsksPart}
 use Rattle.std.specs.Prelude.{◌≡◌, Some, map}
 use Rattle.obligations.proofs.WantedLiteralLemmas.{if_some}
 use Rattle.obligations.proofs.missing_literals.first_missing_of.Goals as goal

@@ -1,10 +1,6 @@
-use Rattle.obligations.proofs.Vocabulary.{◌∙◌, sym, subst, true≢false, false, plan_of, EventuallyPlan}
-use Rattle.obligations.proofs.Vocabulary.{AlwaysPlan, UntilPlan, NextPlan, TellsNothing, CanAskPlan, guards_at}
-use Rattle.obligations.proofs.Vocabulary.{AsksPart}
-use Rattle.obligations.proofs.PartLemmas.{asks_always, asks_eventually, asks_left, asks_next, asks_right, not_there}
-use Rattle.obligations.proofs.PartLemmas.{told_right}
-use Rattle.obligations.proofs.pending_parts.part_asked.Goals.{else-in_window-2-via-then-in_window-2+in_ok-misses_nothing-in-Until+else-branch}
-use Rattle.obligations.proofs.pending_parts.part_asked.Goals.{else-in_window-2-via-else-in_window-2}
+use Rattle.obligations.proofs.Vocabulary.{◌∙◌, sym, subst, true≢false, false, plan_of, EventuallyPlan, AlwaysPlan, UntilPlan, NextPlan, TellsNothing, CanAskPlan, guards_at, AsksPart}
+use Rattle.obligations.proofs.PartLemmas.{asks_always, asks_eventually, asks_left, asks_next, asks_right, not_there, told_right}
+use Rattle.obligations.proofs.pending_parts.part_asked.Goals.{else-in_window-2-via-then-in_window-2+in_ok-misses_nothing-in-Until+else-branch, else-in_window-2-via-else-in_window-2}
 use Rattle.obligations.proofs.pending_parts.part_asked.Goals as goal
 
 pub returns-then-forced : goal.returns-then-forced

@@ -1,5 +1,4 @@
-use Rattle.obligations.proofs.Vocabulary.{IsTrue, sym, subst, ◌∙◌, true≢false, AllByRecursion}
-use Rattle.obligations.proofs.Vocabulary.{AllByRecursion-append, nodes, plan_of, IsPlain}
+use Rattle.obligations.proofs.Vocabulary.{IsTrue, sym, subst, ◌∙◌, true≢false, AllByRecursion, AllByRecursion-append, nodes, plan_of, IsPlain}
 use Rattle.std.proofs.Common.{◌↔◌}
 use Rattle.obligations.proofs.SoundnessLemmas.{all_left, all_right}
 use Rattle.obligations.proofs.plain_plans.+is_plain.Goals as goal

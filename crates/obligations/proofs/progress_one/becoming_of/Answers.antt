@@ -1,5 +1,4 @@
-use Rattle.obligations.proofs.Vocabulary.{◌≡◌, ◌∙◌, Some, Bool, true, false, ap, sym, subst, option_copied}
-use Rattle.obligations.proofs.Vocabulary.{option_map, plan_of, WillBecome, awaited_in, is_forced_at}
+use Rattle.obligations.proofs.Vocabulary.{◌≡◌, ◌∙◌, Some, Bool, true, false, ap, sym, subst, option_copied, option_map, plan_of, WillBecome, awaited_in, is_forced_at}
 use Rattle.obligations.proofs.ProgressLemmas.{turns_served}
 use Rattle.obligations.proofs.progress_one.becoming_of.Goals as goal
 

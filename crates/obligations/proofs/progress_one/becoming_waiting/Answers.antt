@@ -1,10 +1,7 @@
-use Rattle.obligations.proofs.Vocabulary.{◌∙◌, Some, sym, subst, true≢false, false, true, plan_of}
-use Rattle.obligations.proofs.Vocabulary.{EventuallyPlan, AlwaysPlan, UntilPlan, NextPlan, TellsNothing, CanAskPlan}
-use Rattle.obligations.proofs.Vocabulary.{guards_at, WillBecome}
+use Rattle.obligations.proofs.Vocabulary.{◌∙◌, Some, sym, subst, true≢false, false, true, plan_of, EventuallyPlan, AlwaysPlan, UntilPlan, NextPlan, TellsNothing, CanAskPlan, guards_at, WillBecome}
 use Rattle.obligations.proofs.PartLemmas.{not_there, told_right}
 use Rattle.obligations.proofs.ProgressLemmas.{turns_always, turns_eventually, turns_left, turns_next, turns_right}
-use Rattle.obligations.proofs.progress_one.becoming_waiting.Goals.{else-in_window-3-via-then-in_window-3+in_ok-misses_nothing-in-Until+else-branch-2}
-use Rattle.obligations.proofs.progress_one.becoming_waiting.Goals.{else-in_window-3-via-else-in_window-3}
+use Rattle.obligations.proofs.progress_one.becoming_waiting.Goals.{else-in_window-3-via-then-in_window-3+in_ok-misses_nothing-in-Until+else-branch-2, else-in_window-3-via-else-in_window-3}
 use Rattle.obligations.proofs.progress_one.becoming_waiting.Goals as goal
 
 pub returns-in-Next : goal.returns-in-Next

@@ -1,5 +1,4 @@
-use Rattle.obligations.proofs.Vocabulary.{map, sym, subst, all_at, slice_get-map_at, plan_of, AddsAsked, CanAskPlan}
-use Rattle.obligations.proofs.Vocabulary.{CanAskRoot, guards_at, Begun}
+use Rattle.obligations.proofs.Vocabulary.{map, sym, subst, all_at, slice_get-map_at, plan_of, AddsAsked, CanAskPlan, CanAskRoot, guards_at, Begun}
 use Rattle.obligations.proofs.RootLemmas.{root_asked, root_comes, root_more}
 use Rattle.obligations.proofs.progress_one.begun_by_roots.Goals as goal
 

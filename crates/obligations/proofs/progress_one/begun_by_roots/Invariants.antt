@@ -1,5 +1,4 @@
-use Rattle.obligations.proofs.Vocabulary.{Contains, List, map, take, AllByRecursion, Step, plan_of, IsNowOf, guards_at}
-use Rattle.obligations.proofs.Vocabulary.{ComesOfRoot, BegunByRoots, CanAskOf, Instance}
+use Rattle.obligations.proofs.Vocabulary.{Contains, List, map, take, AllByRecursion, Step, plan_of, IsNowOf, guards_at, ComesOfRoot, BegunByRoots, CanAskOf, Instance}
 use Rattle.obligations.proofs.progress_one.begun_by_roots.Given as goal
 
 abbrev pub invariant-loop-rule : goal.invariant-loop-rule

@@ -1,5 +1,4 @@
-use Rattle.obligations.proofs.Vocabulary.{Contains, List, ap, subst, sym, none_in_nil, Instance, IfSome, option_copied}
-use Rattle.obligations.proofs.Vocabulary.{option_map, AllByRecursion, plan_of, StandsIn, guards_at, CanAskOf}
+use Rattle.obligations.proofs.Vocabulary.{Contains, List, ap, subst, sym, none_in_nil, Instance, IfSome, option_copied, option_map, AllByRecursion, plan_of, StandsIn, guards_at, CanAskOf}
 use Rattle.obligations.proofs.SuccessorLemmas.{all_asked, all_begun}
 use Rattle.obligations.proofs.progress_one.begun_for.Goals.{in-Some+in_ok-begin_ahead, in_default}
 use Rattle.obligations.proofs.progress_one.begun_for.Goals as goal

@@ -1,6 +1,5 @@
 -- What is found below the first of two nodes, or below the second.
-use Rattle.obligations.proofs.Vocabulary.{◌≡◌, false, nat_eq, IfOk, ⊎_elim, ne_eqb, refl, sym, ap, subst}
-use Rattle.obligations.proofs.Vocabulary.{◌∙◌, Plan, has_number, plan_of, FindsScope}
+use Rattle.obligations.proofs.Vocabulary.{◌≡◌, false, nat_eq, IfOk, ⊎_elim, ne_eqb, refl, sym, ap, subst, ◌∙◌, Plan, has_number, plan_of, FindsScope}
 use Rattle.plan_terms.specs.declared.plans.Plan.{Plan as Stored}
 use Rattle.obligations.proofs.ScopeLemmas.{HasTwo, below_first, below_second_if}
 use Rattle.obligations.proofs.scopes.+find_scope.Goals as goal

@@ -1,6 +1,4 @@
-use Rattle.obligations.proofs.Vocabulary.{rules, ◌≡◌, [], ◌∷◌, List, refl, ap, arith, inr, slice_index_or}
-use Rattle.obligations.proofs.Vocabulary.{event_p, no_values, at_5, begun_at_5, next_p, cause_literal, Instance, Both}
-use Rattle.obligations.proofs.Vocabulary.{AlwaysPlan}
+use Rattle.obligations.proofs.Vocabulary.{rules, ◌≡◌, [], ◌∷◌, List, refl, ap, arith, inr, slice_index_or, event_p, no_values, at_5, begun_at_5, next_p, cause_literal, Instance, Both, AlwaysPlan}
 use Rattle.obligations.proofs.UniquenessLemmas.{begun_is_one}
 use Rattle.obligations.proofs.RowsLemmas.{rows_are_one}
 use Rattle.obligations.proofs.worked_cases.begun_in_order.Goals as goal

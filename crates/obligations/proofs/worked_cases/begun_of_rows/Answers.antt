@@ -1,5 +1,4 @@
-use Rattle.obligations.proofs.Vocabulary.{List, [], ◌∷◌, refl, ap, slice_index_or, no_values, at_5, each_next}
-use Rattle.obligations.proofs.Vocabulary.{next_for, value_1, value_2, two_and_one, Instance}
+use Rattle.obligations.proofs.Vocabulary.{List, [], ◌∷◌, refl, ap, slice_index_or, no_values, at_5, each_next, next_for, value_1, value_2, two_and_one, Instance}
 use Rattle.obligations.proofs.CaseLemmas.{both_rows, bound_apart, no_row, rows}
 use Rattle.obligations.proofs.UniquenessLemmas.{begun_is_one}
 use Rattle.obligations.proofs.RowsLemmas.{rows_are_one}

@@ -1,6 +1,5 @@
-use Rattle.obligations.proofs.Vocabulary.{ℕ, zero, suc, ◌≤◌, false, [], ◌∷◌, refl, arith, inl, All-cons}
-use Rattle.obligations.proofs.Vocabulary.{All-nil, event_p, no_values, LacksNothing, at_5, begun_at_5, cause_p}
-use Rattle.obligations.proofs.Vocabulary.{HasDeadline, IsClean, MissingOf}
+use Rattle.obligations.proofs.Vocabulary.{ℕ, zero, suc, ◌≤◌, false, [], ◌∷◌, refl, arith, inl, All-cons, All-nil, event_p, no_values, LacksNothing, at_5, begun_at_5, cause_p, HasDeadline, IsClean}
+use Rattle.obligations.proofs.Vocabulary.{MissingOf}
 use Rattle.obligations.proofs.worked_cases.clean.Goals as goal
 
 one_step : IsClean (cause_p 0 ∷ []) (at_5 (event_p ∷ []))

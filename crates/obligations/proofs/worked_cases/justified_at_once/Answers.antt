@@ -1,8 +1,6 @@
-use Rattle.obligations.proofs.Vocabulary.{◌≡◌, ℕ, List, [], ◌∷◌, Contains, inl, refl, sym, ap, subst}
-use Rattle.obligations.proofs.Vocabulary.{◌∙◌, arith, lit<, none-some, same_Some, step_at, none_in_nil, no_values}
-use Rattle.obligations.proofs.Vocabulary.{Event, Step, one_event, event_p, event_q, IsLost, LeadsTo, Obligation}
-use Rattle.obligations.proofs.Vocabulary.{obligation, Plan, at_5, at_once_for, bar_q, cause_p, IsWantedBy}
-use Rattle.obligations.proofs.Vocabulary.{ServesLiteral, literal_of, last_position, Literal}
+use Rattle.obligations.proofs.Vocabulary.{◌≡◌, ℕ, List, [], ◌∷◌, Contains, inl, refl, sym, ap, subst, ◌∙◌, arith, lit<, none-some, same_Some, step_at, none_in_nil, no_values, Event, Step, one_event}
+use Rattle.obligations.proofs.Vocabulary.{event_p, event_q, IsLost, LeadsTo, Obligation, obligation, Plan, at_5, at_once_for, bar_q, cause_p, IsWantedBy, ServesLiteral, literal_of, last_position}
+use Rattle.obligations.proofs.Vocabulary.{Literal}
 use Rattle.obligations.proofs.OwedCases.{as_it_is, nowhere, one_step}
 use Rattle.obligations.specs.declared.literals.LiteralKind.TheVariants as kind
 use Rattle.obligations.proofs.worked_cases.justified_at_once.Goals as goal

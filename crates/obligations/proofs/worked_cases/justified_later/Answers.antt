@@ -1,9 +1,6 @@
-use Rattle.obligations.proofs.Vocabulary.{◌≡◌, ℕ, zero, suc, ◌<◌, List, [], ◌∷◌, ◌++◌, Contains}
-use Rattle.obligations.proofs.Vocabulary.{IsTrue, inr, ⊎_elim, refl, sym, ap, subst, arith, lit<, lit≤}
-use Rattle.obligations.proofs.Vocabulary.{false≢true, same_Some, step_at, no_step, none_in_nil, no_values, Step}
-use Rattle.obligations.proofs.Vocabulary.{one_event, at_time, event_p, Sat, IsLost, IsAhead, LeadsThrough, Obligation}
-use Rattle.obligations.proofs.Vocabulary.{obligation, is_future, formula_for, Plan, at_5, soon_p, then_for, cause_p}
-use Rattle.obligations.proofs.Vocabulary.{IsWantedBy, literal_of}
+use Rattle.obligations.proofs.Vocabulary.{◌≡◌, ℕ, zero, suc, ◌<◌, List, [], ◌∷◌, ◌++◌, Contains, IsTrue, inr, ⊎_elim, refl, sym, ap, subst, arith, lit<, lit≤, false≢true, same_Some, step_at, no_step}
+use Rattle.obligations.proofs.Vocabulary.{none_in_nil, no_values, Step, one_event, at_time, event_p, Sat, IsLost, IsAhead, LeadsThrough, Obligation, obligation, is_future, formula_for, Plan, at_5}
+use Rattle.obligations.proofs.Vocabulary.{soon_p, then_for, cause_p, IsWantedBy, literal_of}
 use Rattle.obligations.proofs.OwedCases.{also_too_late, as_it_is, soon_leads, then_p, two_steps}
 use Rattle.obligations.proofs.worked_cases.justified_later.Goals as goal
 

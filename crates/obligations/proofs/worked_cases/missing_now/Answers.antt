@@ -1,5 +1,4 @@
-use Rattle.obligations.proofs.Vocabulary.{rules, [], ◌∷◌, refl, inr, event_p, event_q, cause_literal}
-use Rattle.obligations.proofs.Vocabulary.{suppress_literal}
+use Rattle.obligations.proofs.Vocabulary.{rules, [], ◌∷◌, refl, inr, event_p, event_q, cause_literal, suppress_literal}
 use Rattle.obligations.proofs.worked_cases.missing_now.Goals as goal
 
 pub returns-clause-both : goal.returns-clause-both

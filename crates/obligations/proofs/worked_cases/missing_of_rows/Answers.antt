@@ -1,11 +1,8 @@
-use Rattle.obligations.proofs.Vocabulary.{List, [], ◌∷◌, Contains, refl, ap, subst, sym, inl, inr, ⊎_elim, lit<}
-use Rattle.obligations.proofs.Vocabulary.{slice_index_or, first_or_later, none_in_nil, no_values, Event, Value}
-use Rattle.obligations.proofs.Vocabulary.{event_q_of, name_q, at_5, bound_to, cause_q_of_x, each_q, value_1, p_of_1}
-use Rattle.obligations.proofs.Vocabulary.{q_of_1, q_of_2, value_2, two_and_one, Missing, OfEvent, LiteralUnless}
-use Rattle.obligations.proofs.Vocabulary.{IsPresent, cause_literal, Literal}
+use Rattle.obligations.proofs.Vocabulary.{List, [], ◌∷◌, Contains, refl, ap, subst, sym, inl, inr, ⊎_elim, lit<, slice_index_or, first_or_later, none_in_nil, no_values, Event, Value, event_q_of}
+use Rattle.obligations.proofs.Vocabulary.{name_q, at_5, bound_to, cause_q_of_x, each_q, value_1, p_of_1, q_of_1, q_of_2, value_2, two_and_one, Missing, OfEvent, LiteralUnless, IsPresent}
+use Rattle.obligations.proofs.Vocabulary.{cause_literal, Literal}
 use Rattle.std.specs.Prelude.{Option}
-use Rattle.obligations.proofs.CaseLemmas.{bound_is, both_rows, names_apart, no_q, no_row, not_two, one_row, row_of_1}
-use Rattle.obligations.proofs.CaseLemmas.{row_with_q, rows, rows_with_q}
+use Rattle.obligations.proofs.CaseLemmas.{bound_is, both_rows, names_apart, no_q, no_row, not_two, one_row, row_of_1, row_with_q, rows, rows_with_q}
 use Rattle.obligations.proofs.UniquenessLemmas.{missing_is_one}
 use Rattle.obligations.proofs.RowsLemmas.{rows_are_one}
 use Rattle.obligations.proofs.worked_cases.missing_of_rows.Goals as goal

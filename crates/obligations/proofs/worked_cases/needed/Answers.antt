@@ -1,8 +1,6 @@
-use Rattle.obligations.proofs.Vocabulary.{◌≡◌, ℕ, List, [], ◌∷◌, ◌++◌, IsTrue, inl, ⊎_elim, refl}
-use Rattle.obligations.proofs.Vocabulary.{sym, ap, subst, arith, lit<, lit≤, false≢true, step_at, no_step}
-use Rattle.obligations.proofs.Vocabulary.{none_in_nil, there_from_get, Valuation, no_values, Event, Step, one_event}
-use Rattle.obligations.proofs.Vocabulary.{event_p, Sat, window_end, has_deadline, formula_for, Plan, IsLost, IsOwed}
-use Rattle.obligations.proofs.Vocabulary.{LeadsThrough, Obligation, obligation, always_p, at_5, soon_p, cause_p}
+use Rattle.obligations.proofs.Vocabulary.{◌≡◌, ℕ, List, [], ◌∷◌, ◌++◌, IsTrue, inl, ⊎_elim, refl, sym, ap, subst, arith, lit<, lit≤, false≢true, step_at, no_step, none_in_nil, there_from_get}
+use Rattle.obligations.proofs.Vocabulary.{Valuation, no_values, Event, Step, one_event, event_p, Sat, window_end, has_deadline, formula_for, Plan, IsLost, IsOwed, LeadsThrough, Obligation, obligation}
+use Rattle.obligations.proofs.Vocabulary.{always_p, at_5, soon_p, cause_p}
 use Rattle.obligations.proofs.OwedCases.{as_it_is, behind_body, one_step, only_root, soon_leads, too_late, IsSoon}
 use Rattle.obligations.proofs.worked_cases.needed.Goals as goal
 

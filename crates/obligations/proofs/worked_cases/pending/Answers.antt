@@ -1,5 +1,4 @@
-use Rattle.obligations.proofs.Vocabulary.{rules, [], ◌∷◌, refl, inr, event_p, no_values, begun_at_5, waiting}
-use Rattle.obligations.proofs.Vocabulary.{Instance, cause_literal}
+use Rattle.obligations.proofs.Vocabulary.{rules, [], ◌∷◌, refl, inr, event_p, no_values, begun_at_5, waiting, Instance, cause_literal}
 use Rattle.obligations.proofs.worked_cases.pending.Goals as goal
 
 -- begun at the second position

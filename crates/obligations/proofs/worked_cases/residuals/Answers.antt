@@ -1,6 +1,4 @@
-use Rattle.obligations.proofs.Vocabulary.{ℕ, zero, suc, ◌<◌, ◌≤◌, List, [], ◌∷◌, Contains, refl}
-use Rattle.obligations.proofs.Vocabulary.{arith, lit<, lit≤, step_at, Event, event_p, event_q, none_in_nil, then_at}
-use Rattle.obligations.proofs.Vocabulary.{waiting, IsPositionLeft}
+use Rattle.obligations.proofs.Vocabulary.{ℕ, zero, suc, ◌<◌, ◌≤◌, List, [], ◌∷◌, Contains, refl, arith, lit<, lit≤, step_at, Event, event_p, event_q, none_in_nil, then_at, waiting, IsPositionLeft}
 use Rattle.obligations.proofs.worked_cases.residuals.Goals as goal
 
 -- the second position is left where its time is in the window

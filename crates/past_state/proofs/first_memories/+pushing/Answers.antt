@@ -1,9 +1,6 @@
-use Rattle.past_state.proofs.Vocabulary.{rules, ◌∙◌, ◌+◌, ◌++◌, All, length, reverse, sym, subst, ap}
-use Rattle.past_state.proofs.Vocabulary.{arith, IfOk-weaker, tree_of, Prev, Once, Historically, Since, IsFree, VarId}
-use Rattle.past_state.proofs.Vocabulary.{outermost, Safe, NoneBound, BoundOrFreeIn, denial, BindsFresh, CanKeep}
-use Rattle.past_state.proofs.Vocabulary.{IsFreshFormula, PushesFor, IsFor, operators}
-use Rattle.past_state.proofs.FirstMemoryLemmas.{keep_rest, keep_first, keep_left, keep_right, pushes_up, pushes_both}
-use Rattle.past_state.proofs.FirstMemoryLemmas.{both_fewer, sum_counts}
+use Rattle.past_state.proofs.Vocabulary.{rules, ◌∙◌, ◌+◌, ◌++◌, All, length, reverse, sym, subst, ap, arith, IfOk-weaker, tree_of, Prev, Once, Historically, Since, IsFree, VarId, outermost, Safe}
+use Rattle.past_state.proofs.Vocabulary.{NoneBound, BoundOrFreeIn, denial, BindsFresh, CanKeep, IsFreshFormula, PushesFor, IsFor, operators}
+use Rattle.past_state.proofs.FirstMemoryLemmas.{keep_rest, keep_first, keep_left, keep_right, pushes_up, pushes_both, both_fewer, sum_counts}
 use Rattle.past_state.proofs.first_memories.+pushing.Goals as goal
 
 pub push_operators-push_operators-requires-in-Since : goal.push_operators-push_operators-requires-in-Since

@@ -1,8 +1,6 @@
-use Rattle.past_state.proofs.Vocabulary.{ℕ, ◌∙◌, ◌+◌, ◌++◌, None, sym, subst, ap, refl, arith}
-use Rattle.past_state.proofs.Vocabulary.{option_to_list, false≢true, tree_of, safe_past}
+use Rattle.past_state.proofs.Vocabulary.{ℕ, ◌∙◌, ◌+◌, ◌++◌, None, sym, subst, ap, refl, arith, option_to_list, false≢true, tree_of, safe_past}
 use Rattle.std.specs.Option.{IsSome}
-use Rattle.past_state.proofs.GuardLemmas.{placed_next, placed_none, start_fits, last_count, counts_some, all_placed}
-use Rattle.past_state.proofs.GuardLemmas.{PlacedSoFar}
+use Rattle.past_state.proofs.GuardLemmas.{placed_next, placed_none, start_fits, last_count, counts_some, all_placed, PlacedSoFar}
 use Rattle.past_state.proofs.guards.place_all.Goals.{in-Some, in_default}
 use Rattle.past_state.proofs.guards.place_all.Goals as goal
 

@@ -1,5 +1,4 @@
-use Rattle.past_state.proofs.Vocabulary.{◌∙◌, subst, sym, inr, All, reverse, length, ap, None, arith, All-get_or}
-use Rattle.past_state.proofs.Vocabulary.{tree_of, outermost, IsFreshGuard, tree_in, CanKeep, PushesFor, operators}
+use Rattle.past_state.proofs.Vocabulary.{◌∙◌, subst, sym, inr, All, reverse, length, ap, None, arith, All-get_or, tree_of, outermost, IsFreshGuard, tree_in, CanKeep, PushesFor, operators}
 use Rattle.past_state.proofs.GuardLemmas.{counted_none, pushed_none, counted_more, pushed_more}
 use Rattle.past_state.proofs.KeepableLemmas.{keep_all}
 use Rattle.past_state.proofs.guards.push_all.Goals as goal

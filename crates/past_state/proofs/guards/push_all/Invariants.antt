@@ -1,5 +1,4 @@
-use Rattle.past_state.proofs.Vocabulary.{◌≡◌, ◌-◌, length, drop, map, reverse, tree_in, count_in, PushesFor}
-use Rattle.past_state.proofs.Vocabulary.{all_operators}
+use Rattle.past_state.proofs.Vocabulary.{◌≡◌, ◌-◌, length, drop, map, reverse, tree_in, count_in, PushesFor, all_operators}
 use Rattle.past_state.proofs.guards.push_all.Given as goal
 
 abbrev pub invariant-loop-place : goal.invariant-loop-place

@@ -1,5 +1,4 @@
-use Rattle.past_state.proofs.Vocabulary.{◌≡◌, ◌∙◌, ◌++◌, ◌∷◌, [], length, map, ap, sym, refl}
-use Rattle.past_state.proofs.Vocabulary.{append_assoc, arith, map-append, nil_from_length, kept_row}
+use Rattle.past_state.proofs.Vocabulary.{◌≡◌, ◌∙◌, ◌++◌, ◌∷◌, [], length, map, ap, sym, refl, append_assoc, arith, map-append, nil_from_length, kept_row}
 use Rattle.std.proofs.lemmas.List.{append-nil}
 use Rattle.past_state.proofs.kept_rows.push_rows.Goals as goal
 

@@ -1,6 +1,4 @@
-use Rattle.past_state.proofs.Vocabulary.{◌≡◌, ◌∙◌, ◌++◌, ◌+◌, drop, get_or, sym, subst, ap}
-use Rattle.past_state.proofs.Vocabulary.{append-nil, append_assoc, at_drop_all, at_drop_more, tree_of, names_in_formula}
-use Rattle.past_state.proofs.Vocabulary.{guard_formula, guard_names}
+use Rattle.past_state.proofs.Vocabulary.{◌≡◌, ◌∙◌, ◌++◌, ◌+◌, drop, get_or, sym, subst, ap, append-nil, append_assoc, at_drop_all, at_drop_more, tree_of, names_in_formula, guard_formula, guard_names}
 use Rattle.past_state.proofs.names.all_names.Goals as goal
 
 pub loop-placed-init : goal.loop-placed-init

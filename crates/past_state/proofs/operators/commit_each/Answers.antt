@@ -1,7 +1,5 @@
-use Rattle.past_state.proofs.Vocabulary.{◌∙◌, ◌++◌, ◌∷◌, [], ◌<◌, length, ap, sym, refl, arith}
-use Rattle.past_state.proofs.Vocabulary.{append_assoc}
-use Rattle.past_state.proofs.CommitLemmas.{below, fits_here, up_to_here, next_committed, commit_none, lengths_add}
-use Rattle.past_state.proofs.CommitLemmas.{same_all, same_set}
+use Rattle.past_state.proofs.Vocabulary.{◌∙◌, ◌++◌, ◌∷◌, [], ◌<◌, length, ap, sym, refl, arith, append_assoc}
+use Rattle.past_state.proofs.CommitLemmas.{below, fits_here, up_to_here, next_committed, commit_none, lengths_add, same_all, same_set}
 use Rattle.past_state.proofs.operators.commit_each.Goals as goal
 
 pub loop-step-init : goal.loop-step-init

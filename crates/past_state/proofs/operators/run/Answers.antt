@@ -1,6 +1,4 @@
-use Rattle.past_state.proofs.Vocabulary.{◌∙◌, ◌++◌, ◌-◌, ◌≤◌, ◌∷◌, [], length, map, take, ap}
-use Rattle.past_state.proofs.Vocabulary.{sym, subst, arith, length-map, length-reverse, table_at, tables_at}
-use Rattle.past_state.proofs.Vocabulary.{AreStepTables, CanStep}
+use Rattle.past_state.proofs.Vocabulary.{◌∙◌, ◌++◌, ◌-◌, ◌≤◌, ◌∷◌, [], length, map, take, ap, sym, subst, arith, length-map, length-reverse, table_at, tables_at, AreStepTables, CanStep}
 use Rattle.past_state.proofs.LazyTableLemmas.{asked_tables, ran_more}
 use Rattle.past_state.proofs.OperatorRunLemmas.{ready}
 use Rattle.past_state.proofs.operators.run.Goals as goal

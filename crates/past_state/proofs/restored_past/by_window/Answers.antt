@@ -1,5 +1,4 @@
-use Rattle.past_state.proofs.Vocabulary.{◌∙◌, ◌++◌, ◌∷◌, [], Some, ap, sym, arith, append_assoc}
-use Rattle.past_state.proofs.Vocabulary.{slice_get-get_or}
+use Rattle.past_state.proofs.Vocabulary.{◌∙◌, ◌++◌, ◌∷◌, [], Some, ap, sym, arith, append_assoc, slice_get-get_or}
 use Rattle.past_state.proofs.RestoredRowLemmas.{lists_filled, within_rows}
 use Rattle.past_state.proofs.restored_past.by_window.Goals as goal
 

@@ -1,7 +1,5 @@
-use Rattle.past_state.proofs.Vocabulary.{◌∙◌, ◌<◌, ⊎_elim, ap, All, refl, subst, sym, arith, rev_source}
-use Rattle.past_state.proofs.Vocabulary.{zip_first, zip_second, into_iter_items, AreByWindow}
-use Rattle.past_state.proofs.RestoredRowLemmas.{AreLeft, all_left, distinct_next, keepable_next, none_left, one_less}
-use Rattle.past_state.proofs.RestoredRowLemmas.{rows_within}
+use Rattle.past_state.proofs.Vocabulary.{◌∙◌, ◌<◌, ⊎_elim, ap, All, refl, subst, sym, arith, rev_source, zip_first, zip_second, into_iter_items, AreByWindow}
+use Rattle.past_state.proofs.RestoredRowLemmas.{AreLeft, all_left, distinct_next, keepable_next, none_left, one_less, rows_within}
 use Rattle.past_state.proofs.restored_past.restore_each.Goals as goal
 
 pub by_window-requires : goal.by_window-requires

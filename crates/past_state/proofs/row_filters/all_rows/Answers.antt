@@ -1,5 +1,4 @@
-use Rattle.past_state.proofs.Vocabulary.{Contains, sym, subst, IfOk-weaker, tree_of, AreFreeVariables, AreOpen}
-use Rattle.past_state.proofs.Vocabulary.{CanEvaluate, HasKnownValues, AreHoldingRows, none_in_nil, AllComeFrom}
+use Rattle.past_state.proofs.Vocabulary.{Contains, sym, subst, IfOk-weaker, tree_of, AreFreeVariables, AreOpen, CanEvaluate, HasKnownValues, AreHoldingRows, none_in_nil, AllComeFrom}
 use Rattle.past_state.proofs.ColumnLemmas.{open_free, known_from}
 use Rattle.past_state.proofs.row_filters.all_rows.Goals as goal
 

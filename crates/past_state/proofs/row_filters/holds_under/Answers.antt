@@ -1,6 +1,5 @@
-use Rattle.past_state.proofs.Vocabulary.{◌≡◌, ◌∙◌, ◌↔◌, IsTrue, ap, sym, subst, Contains, IfOk-weaker}
-use Rattle.past_state.proofs.Vocabulary.{tree_of, Valuation, value_at, BindsColumns, valuation_of, iff_then}
-use Rattle.past_state.proofs.Vocabulary.{CanEvaluate, HoldsNow, FreeWithin, filled_from_row, AgreeOnColumns}
+use Rattle.past_state.proofs.Vocabulary.{◌≡◌, ◌∙◌, ◌↔◌, IsTrue, ap, sym, subst, Contains, IfOk-weaker, tree_of, Valuation, value_at, BindsColumns, valuation_of, iff_then, CanEvaluate, HoldsNow}
+use Rattle.past_state.proofs.Vocabulary.{FreeWithin, filled_from_row, AgreeOnColumns}
 use Rattle.past_state.proofs.RowLemmas.{row_over_nothing, row_binds}
 use Rattle.past_state.proofs.row_filters.holds_under.Goals as goal
 

@@ -1,6 +1,4 @@
-use Rattle.past_state.proofs.Vocabulary.{◌≡◌, ◌∙◌, ◌↔◌, ◌≤◌, ap, sym, subst, Contains, length}
-use Rattle.past_state.proofs.Vocabulary.{All, [], ◌∷◌, ◌++◌, IfOk-weaker, tree_of, Valuation, HoldsNow}
-use Rattle.past_state.proofs.Vocabulary.{HasValuation, ok_relation}
+use Rattle.past_state.proofs.Vocabulary.{◌≡◌, ◌∙◌, ◌↔◌, ◌≤◌, ap, sym, subst, Contains, length, All, [], ◌∷◌, ◌++◌, IfOk-weaker, tree_of, Valuation, HoldsNow, HasValuation, ok_relation}
 use Rattle.past_state.proofs.KeptRows.{looped_more, looped_no_more, kept_all, kept_has, kept_fit}
 use Rattle.past_state.proofs.row_filters.surviving_rows.Goals.{then-branch+in_ok-duplicate+in_ok-push, else-branch}
 use Rattle.past_state.proofs.row_filters.surviving_rows.Goals as goal

@@ -1,6 +1,5 @@
-use Rattle.past_state.proofs.Vocabulary.{◌≡◌, ◌∙◌, ◌++◌, ◌∷◌, ⊎_elim, ℕ, List, map, sym, ap}
-use Rattle.past_state.proofs.Vocabulary.{subst, on_ok_weaker, VarId, Formula, Since, AreFreeVariables, tree_of}
-use Rattle.past_state.proofs.Vocabulary.{operators, kept_operand, numbered_operator}
+use Rattle.past_state.proofs.Vocabulary.{◌≡◌, ◌∙◌, ◌++◌, ◌∷◌, ⊎_elim, ℕ, List, map, sym, ap, subst, on_ok_weaker, VarId, Formula, Since, AreFreeVariables, tree_of, operators, kept_operand}
+use Rattle.past_state.proofs.Vocabulary.{numbered_operator}
 use Rattle.enf_formula.specs.declared.formulas.Formula.{Formula as Stored}
 use Rattle.past_state.proofs.ShapeLemmas.{denial_free, pushed_two}
 use Rattle.past_state.proofs.shapes.+push_shapes.Goals as goal

@@ -1,6 +1,4 @@
-use Rattle.past_state.proofs.Vocabulary.{◌≡◌, ◌∙◌, ◌++◌, ◌∷◌, ◌+◌, [], map, take, Some, sym}
-use Rattle.past_state.proofs.Vocabulary.{ap, subst, option_copied, false≢true, take_more, AreWithinBounds}
-use Rattle.past_state.proofs.Vocabulary.{operator_of}
+use Rattle.past_state.proofs.Vocabulary.{◌≡◌, ◌∙◌, ◌++◌, ◌∷◌, ◌+◌, [], map, take, Some, sym, ap, subst, option_copied, false≢true, take_more, AreWithinBounds, operator_of}
 use Rattle.past_state.proofs.ShapeLemmas.{IsLastOf, can_follow_from, last_with, within_with}
 use Rattle.past_state.proofs.shapes.check_each.Goals as goal
 

@@ -1,7 +1,5 @@
-use Rattle.past_state.proofs.Vocabulary.{◌≡◌, ◌∙◌, ◌++◌, ◌+◌, ℕ, suc, List, drop, get_or, map}
-use Rattle.past_state.proofs.Vocabulary.{sym, subst, ap, append-nil, append_assoc, arith, at_drop_all, at_drop_more}
-use Rattle.past_state.proofs.Vocabulary.{map-map, Formula, tree_of, BoundFormula, tree_in, operators}
-use Rattle.past_state.proofs.Vocabulary.{numbered_operators, numbered_operator}
+use Rattle.past_state.proofs.Vocabulary.{◌≡◌, ◌∙◌, ◌++◌, ◌+◌, ℕ, suc, List, drop, get_or, map, sym, subst, ap, append-nil, append_assoc, arith, at_drop_all, at_drop_more, map-map, Formula, tree_of}
+use Rattle.past_state.proofs.Vocabulary.{BoundFormula, tree_in, operators, numbered_operators, numbered_operator}
 use Rattle.past_state.proofs.ShapeLemmas.{without_numbers}
 use Rattle.past_state.proofs.shapes.window_shapes.Goals as goal
 

@@ -1,5 +1,4 @@
-use Rattle.past_state.proofs.Vocabulary.{◌≡◌, ◌++◌, All, drop, map, tree_in, HasItsColumns, numbered_operator}
-use Rattle.past_state.proofs.Vocabulary.{numbered_operators}
+use Rattle.past_state.proofs.Vocabulary.{◌≡◌, ◌++◌, All, drop, map, tree_in, HasItsColumns, numbered_operator, numbered_operators}
 use Rattle.past_state.proofs.shapes.window_shapes.Given as goal
 
 abbrev pub invariant-loop-number : goal.invariant-loop-number

@@ -1,9 +1,6 @@
-use Rattle.past_state.proofs.Vocabulary.{⊎_elim, inl, inr, ◌∷◌, [], refl, subst, arith, All-head, none-some}
-use Rattle.past_state.proofs.Vocabulary.{same_Some, AreFreeVariables, here, later, x_columns, case_from, case_within}
-use Rattle.past_state.proofs.Vocabulary.{same_number, q_since_p, first_window_row, second_window_row, two_number_row}
-use Rattle.past_state.proofs.Vocabulary.{once_in, prev_p, IsRowBefore, kept_operand}
-use Rattle.past_state.proofs.RowCaseLemmas.{both_fit, first_of_rows, fit_one, fit_two, keepable, not_before, one_of_one}
-use Rattle.past_state.proofs.RowCaseLemmas.{one_of_two, p_free, second_of_rows, timely_of}
+use Rattle.past_state.proofs.Vocabulary.{⊎_elim, inl, inr, ◌∷◌, [], refl, subst, arith, All-head, none-some, same_Some, AreFreeVariables, here, later, x_columns, case_from, case_within, same_number}
+use Rattle.past_state.proofs.Vocabulary.{q_since_p, first_window_row, second_window_row, two_number_row, once_in, prev_p, IsRowBefore, kept_operand}
+use Rattle.past_state.proofs.RowCaseLemmas.{both_fit, first_of_rows, fit_one, fit_two, keepable, not_before, one_of_one, one_of_two, p_free, second_of_rows, timely_of}
 use Rattle.past_state.proofs.worked_cases.bounds.Goals as goal
 
 pub returns : goal.returns

@@ -1,6 +1,5 @@
 use Rattle.past_state.proofs.Vocabulary.{[], refl, arith, Sat, here, x_number, number_steps, p_of, p_of_x}
-use Rattle.past_state.proofs.RowCaseLemmas.{held_at, none_after_three, none_after_two, once_kept, p_at, p_of_another}
-use Rattle.past_state.proofs.RowCaseLemmas.{since_died, since_kept}
+use Rattle.past_state.proofs.RowCaseLemmas.{held_at, none_after_three, none_after_two, once_kept, p_at, p_of_another, since_died, since_kept}
 use Rattle.past_state.proofs.worked_cases.kept_by_operators.Goals as goal
 
 pub returns : goal.returns

@@ -1,7 +1,5 @@
-use Rattle.past_state.proofs.Vocabulary.{ℕ, zero, suc, ◌≡◌, ◌<◌, ◌≤◌, [], Some, length, refl, arith}
-use Rattle.past_state.proofs.Vocabulary.{slice_get, none-some, step_at, event_p, formula_p, Once, Prev, Sat}
-use Rattle.past_state.proofs.Vocabulary.{HoldsAnywhere, here, none_in_nil, valuation_of, case_within, IsKeptInWindow}
-use Rattle.past_state.proofs.Vocabulary.{case_guards, nothing_then_p, p_then_nothing, HasPairAt, all_operators}
+use Rattle.past_state.proofs.Vocabulary.{ℕ, zero, suc, ◌≡◌, ◌<◌, ◌≤◌, [], Some, length, refl, arith, slice_get, none-some, step_at, event_p, formula_p, Once, Prev, Sat, HoldsAnywhere, here}
+use Rattle.past_state.proofs.Vocabulary.{none_in_nil, valuation_of, case_within, IsKeptInWindow, case_guards, nothing_then_p, p_then_nothing, HasPairAt, all_operators}
 use Rattle.past_state.proofs.ChosenLemmas.{not_below}
 use Rattle.past_state.proofs.RowCaseLemmas.{closed_prev, kept_in, no_variables}
 use Rattle.past_state.proofs.worked_cases.kept_in_windows.Goals as goal

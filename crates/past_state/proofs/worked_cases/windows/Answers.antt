@@ -1,5 +1,4 @@
-use Rattle.past_state.proofs.Vocabulary.{◌∷◌, [], refl, arith, here, later, case_within, CaseRowsFit}
-use Rattle.past_state.proofs.Vocabulary.{first_window_row, once_in}
+use Rattle.past_state.proofs.Vocabulary.{◌∷◌, [], refl, arith, here, later, case_within, CaseRowsFit, first_window_row, once_in}
 use Rattle.past_state.proofs.RowCaseLemmas.{first_of_rows, fit_one, one_of_one, p_free, timely_of}
 use Rattle.past_state.proofs.worked_cases.windows.Goals as goal
 

@@ -1,5 +1,4 @@
-use Rattle.pending.proofs.Vocabulary.{◌≡◌, ◌++◌, ◌∷◌, [], ap, sym, ◌∙◌, arith, append_assoc}
-use Rattle.pending.proofs.Vocabulary.{length, length-append, map, plan_of, entries_from, eqb-true}
+use Rattle.pending.proofs.Vocabulary.{◌≡◌, ◌++◌, ◌∷◌, [], ap, sym, ◌∙◌, arith, append_assoc, length, length-append, map, plan_of, entries_from, eqb-true}
 use Rattle.std.proofs.Common.{append-nil}
 use Rattle.pending.proofs.EntryLemmas.{entries_more, none_from}
 use Rattle.pending.proofs.entries.put_begun.Goals as goal

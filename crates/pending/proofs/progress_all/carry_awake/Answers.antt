@@ -1,5 +1,4 @@
-use Rattle.pending.proofs.Vocabulary.{◌∷◌, ap, drop, map, subst, sym, ◌∙◌, AllByRecursion, plan_of}
-use Rattle.pending.proofs.Vocabulary.{guards_at, CanAskOf, count_due, WalksEntries, ArePendingEntries, items_of}
+use Rattle.pending.proofs.Vocabulary.{◌∷◌, ap, drop, map, subst, sym, ◌∙◌, AllByRecursion, plan_of, guards_at, CanAskOf, count_due, WalksEntries, ArePendingEntries, items_of}
 use Rattle.pending.proofs.EntryStepLemmas.{ahead_has, walk_begins, walk_goes_on}
 use Rattle.pending.proofs.progress_all.carry_awake.Goals as goal
 

@@ -1,5 +1,4 @@
-use Rattle.pending.proofs.Vocabulary.{◌≡◌, ℕ, length, map, AllByRecursion, IsDeadlineQueue, held_count, plan_of}
-use Rattle.pending.proofs.Vocabulary.{guards_at, CanAskOf, count_due, WalksEntries, ArePendingEntries, items_of}
+use Rattle.pending.proofs.Vocabulary.{◌≡◌, ℕ, length, map, AllByRecursion, IsDeadlineQueue, held_count, plan_of, guards_at, CanAskOf, count_due, WalksEntries, ArePendingEntries, items_of}
 use Rattle.pending.proofs.progress_all.carry_awake.Given as goal
 
 abbrev pub invariant-loop-entry : goal.invariant-loop-entry

@@ -1,6 +1,4 @@
-use Rattle.pending.proofs.Vocabulary.{◌++◌, ◌∷◌, [], ap, subst, sym, ◌∙◌, append_assoc, arith}
-use Rattle.pending.proofs.Vocabulary.{AllByRecursion, AllByRecursion-of_append, eqb-true, CanPutIn, ArePendingEntries}
-use Rattle.pending.proofs.Vocabulary.{FitsStep}
+use Rattle.pending.proofs.Vocabulary.{◌++◌, ◌∷◌, [], ap, subst, sym, ◌∙◌, append_assoc, arith, AllByRecursion, AllByRecursion-of_append, eqb-true, CanPutIn, ArePendingEntries, FitsStep}
 use Rattle.pending.proofs.EntryLemmas.{more_kept, puts_more, puts_none}
 use Rattle.pending.proofs.progress_all.put_each.Goals as goal
 

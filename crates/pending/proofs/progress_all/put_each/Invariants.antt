@@ -1,6 +1,4 @@
-use Rattle.pending.proofs.Vocabulary.{◌≡◌, ◌++◌, ℕ, map, AllByRecursion, IsDeadlineQueue, held_count}
-use Rattle.pending.proofs.Vocabulary.{plan_of, count_due, CanPutIn, PutsInEntries, ArePendingEntries, FitsStep}
-use Rattle.pending.proofs.Vocabulary.{items_of}
+use Rattle.pending.proofs.Vocabulary.{◌≡◌, ◌++◌, ℕ, map, AllByRecursion, IsDeadlineQueue, held_count, plan_of, count_due, CanPutIn, PutsInEntries, ArePendingEntries, FitsStep, items_of}
 use Rattle.pending.proofs.progress_all.put_each.Given as goal
 
 abbrev pub invariant-loop-entry : goal.invariant-loop-entry

@@ -1,7 +1,5 @@
-use Rattle.pending.proofs.Vocabulary.{◌≡◌, ◌∙◌, ◌++◌, ◌∷◌, [], suc, ap, append_assoc, arith}
-use Rattle.pending.proofs.Vocabulary.{length, length-append, map, refl, subst, sym, plan_of, HasOneMoreEntry}
-use Rattle.pending.proofs.Vocabulary.{IsFreePlace, beginning_at, Entry, Instance, ArePendingEntries, entries_from}
-use Rattle.pending.proofs.Vocabulary.{entry_at}
+use Rattle.pending.proofs.Vocabulary.{◌≡◌, ◌∙◌, ◌++◌, ◌∷◌, [], suc, ap, append_assoc, arith, length, length-append, map, refl, subst, sym, plan_of, HasOneMoreEntry, IsFreePlace, beginning_at, Entry}
+use Rattle.pending.proofs.Vocabulary.{Instance, ArePendingEntries, entries_from, entry_at}
 use Rattle.std.proofs.Common.{append-nil}
 use Rattle.pending.proofs.EntryLemmas.{free_below, more_kept, put_first}
 use Rattle.pending.proofs.progress_all.put_listed.Goals as goal

@@ -1,5 +1,4 @@
-use Rattle.pending.proofs.Vocabulary.{◌≡◌, ◌++◌, ℕ, List, [], length, map, IsDeadlineQueue, held_count}
-use Rattle.pending.proofs.Vocabulary.{plan_of, count_due, Instance, ArePendingEntries, entries_from, items_of}
+use Rattle.pending.proofs.Vocabulary.{◌≡◌, ◌++◌, ℕ, List, [], length, map, IsDeadlineQueue, held_count, plan_of, count_due, Instance, ArePendingEntries, entries_from, items_of}
 use Rattle.pending.proofs.progress_all.put_listed.Given as goal
 
 abbrev pub invariant-loop-instance : goal.invariant-loop-instance

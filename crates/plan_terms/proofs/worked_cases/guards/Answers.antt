@@ -1,6 +1,5 @@
-use Rattle.plan_terms.proofs.Vocabulary.{◌≡◌, List, [], ◌∷◌, inl, inr, ⊎_elim, refl, sym, ap, ◌∙◌}
-use Rattle.plan_terms.proofs.Vocabulary.{same_Some, variable_x, formula_p, formula_p_x, Formula, here, none_in_nil}
-use Rattle.plan_terms.proofs.Vocabulary.{Term, Var, VarId, plan_terms_y}
+use Rattle.plan_terms.proofs.Vocabulary.{◌≡◌, List, [], ◌∷◌, inl, inr, ⊎_elim, refl, sym, ap, ◌∙◌, same_Some, variable_x, formula_p, formula_p_x, Formula, here, none_in_nil, Term, Var, VarId}
+use Rattle.plan_terms.proofs.Vocabulary.{plan_terms_y}
 use Rattle.plan_terms.proofs.CaseLemmas.{apart, only, told}
 use Rattle.plan_terms.proofs.worked_cases.guards.Goals as goal
 

@@ -1,5 +1,4 @@
-use Rattle.plan_terms.proofs.Vocabulary.{[], ◌∷◌, ◌++◌, refl, lit<, lit≤, at_time, event_p, event_q}
-use Rattle.plan_terms.proofs.Vocabulary.{two_steps}
+use Rattle.plan_terms.proofs.Vocabulary.{[], ◌∷◌, ◌++◌, refl, lit<, lit≤, at_time, event_p, event_q, two_steps}
 use Rattle.plan_terms.proofs.OwedCases.{and_then, as_it_is}
 use Rattle.plan_terms.proofs.worked_cases.lost.Goals as goal
 

@@ -1,5 +1,4 @@
-use Rattle.plan_terms.proofs.Vocabulary.{◌≡◌, ℕ, ap, arith, refl, lit<, lit≤, ⊎_elim, two_steps}
-use Rattle.plan_terms.proofs.Vocabulary.{node_number, IsAhead, Obligation}
+use Rattle.plan_terms.proofs.Vocabulary.{◌≡◌, ℕ, ap, arith, refl, lit<, lit≤, ⊎_elim, two_steps, node_number, IsAhead, Obligation}
 use Rattle.plan_terms.proofs.OwedCases.{as_it_is}
 use Rattle.plan_terms.proofs.worked_cases.moves_ahead.Goals as goal
 

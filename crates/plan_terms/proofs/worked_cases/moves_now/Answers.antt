@@ -1,7 +1,5 @@
-use Rattle.plan_terms.proofs.Vocabulary.{◌≡◌, pos, List, [], ◌∷◌, Option, refl, ap, subst, step_at}
-use Rattle.plan_terms.proofs.Vocabulary.{has_event-Decides, Valuation, no_values, with_values, Value, Num}
-use Rattle.plan_terms.proofs.Vocabulary.{not_from_Decides, event_p_of, formula_p_x, name_p, p_1_q_1, variable_x}
-use Rattle.plan_terms.proofs.Vocabulary.{IsEventAmong, Sat, x_is, Obligation}
+use Rattle.plan_terms.proofs.Vocabulary.{◌≡◌, pos, List, [], ◌∷◌, Option, refl, ap, subst, step_at, has_event-Decides, Valuation, no_values, with_values, Value, Num, not_from_Decides, event_p_of}
+use Rattle.plan_terms.proofs.Vocabulary.{formula_p_x, name_p, p_1_q_1, variable_x, IsEventAmong, Sat, x_is, Obligation}
 use Rattle.plan_terms.proofs.OwedCases.{bound_is, for_1}
 use Rattle.plan_terms.proofs.worked_cases.moves_now.Goals as goal
 

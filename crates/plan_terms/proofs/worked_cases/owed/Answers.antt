@@ -1,9 +1,6 @@
-use Rattle.plan_terms.proofs.Vocabulary.{◌≡◌, ℕ, zero, suc, ◌<◌, pos, List, [], ◌∷◌, Option, None}
-use Rattle.plan_terms.proofs.Vocabulary.{Some, slice_index_or, arith, refl, sym, ap, subst, ◌∙◌, lit<, lit≤}
-use Rattle.plan_terms.proofs.Vocabulary.{same_Some, none_in_nil, no_values, values_of_terms, with_values, NameId, Var}
-use Rattle.plan_terms.proofs.Vocabulary.{Value, Num, empty_step, name_p, name_q, two_steps, variable_x, IsEventAmong}
-use Rattle.plan_terms.proofs.Vocabulary.{cause_p, plan_cause_q, plan_cause_q_x, each_soon, soon_q_x, x_is, caused_at}
-use Rattle.plan_terms.proofs.Vocabulary.{node_number, Plan, LeadsThrough, Obligation, obligation}
+use Rattle.plan_terms.proofs.Vocabulary.{◌≡◌, ℕ, zero, suc, ◌<◌, pos, List, [], ◌∷◌, Option, None, Some, slice_index_or, arith, refl, sym, ap, subst, ◌∙◌, lit<, lit≤, same_Some, none_in_nil}
+use Rattle.plan_terms.proofs.Vocabulary.{no_values, values_of_terms, with_values, NameId, Var, Value, Num, empty_step, name_p, name_q, two_steps, variable_x, IsEventAmong, cause_p, plan_cause_q}
+use Rattle.plan_terms.proofs.Vocabulary.{plan_cause_q_x, each_soon, soon_q_x, x_is, caused_at, node_number, Plan, LeadsThrough, Obligation, obligation}
 use Rattle.plan_terms.proofs.OwedCases.{for_1, from_leaf}
 use Rattle.plan_terms.proofs.worked_cases.owed.Goals as goal
 

@@ -1,5 +1,4 @@
-use Rattle.plan_terms.proofs.Vocabulary.{◌≡◌, ℕ, zero, suc, [], arith, refl, sym, ap, variable_x, name_q, here}
-use Rattle.plan_terms.proofs.Vocabulary.{none_in_nil, plan_cause_q_x, each_soon, soon_q_x, IsNumberedPlan, node_number}
+use Rattle.plan_terms.proofs.Vocabulary.{◌≡◌, ℕ, zero, suc, [], arith, refl, sym, ap, variable_x, name_q, here, none_in_nil, plan_cause_q_x, each_soon, soon_q_x, IsNumberedPlan, node_number}
 use Rattle.plan_terms.proofs.Vocabulary.{CausePlan}
 use Rattle.std.specs.List.Sorted.{IsStrictlySortedBy}
 use Rattle.plan_terms.proofs.CaseLemmas.{known, told}

@@ -1,6 +1,4 @@
-use Rattle.policy_syntax.proofs.Vocabulary.{◌≡◌, ◌∷◌, Option, IfSome, true≢false, sym, subst, ◌∙◌}
-use Rattle.policy_syntax.proofs.Vocabulary.{arith, common_steps, PlacedToken, IsProper, placed_of, token_of, tokens_at}
-use Rattle.policy_syntax.proofs.Vocabulary.{lexeme_of}
+use Rattle.policy_syntax.proofs.Vocabulary.{◌≡◌, ◌∷◌, Option, IfSome, true≢false, sym, subst, ◌∙◌, arith, common_steps, PlacedToken, IsProper, placed_of, token_of, tokens_at, lexeme_of}
 use Rattle.policy_syntax.proofs.Ranges.{IsSound, sound, token_ahead}
 use Rattle.policy_syntax.proofs.cursor.lexeme_at.Goals as goal
 

@@ -1,6 +1,5 @@
 -- The answer is what the automaton says.
-use Rattle.policy_syntax.proofs.Vocabulary.{◌≡◌, ℕ, List, length, Option, None, Some, Ok, Err, refl}
-use Rattle.policy_syntax.proofs.Vocabulary.{IsSyntaxAnswer, SyntaxRefusal}
+use Rattle.policy_syntax.proofs.Vocabulary.{◌≡◌, ℕ, List, length, Option, None, Some, Ok, Err, refl, IsSyntaxAnswer, SyntaxRefusal}
 use Rattle.policy_syntax.proofs.Policies.{Answer, judged, only_answer, policy_out, refusal_answer}
 use Rattle.policy_syntax.proofs.laws.one_answer.Goals as goal
 

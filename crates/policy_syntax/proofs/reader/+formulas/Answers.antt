@@ -1,19 +1,13 @@
-use Rattle.policy_syntax.proofs.Vocabulary.{◌≡◌, false, refl, ◌+◌, ◌≤◌, [], ◌∷◌, length, sym, ap}
-use Rattle.policy_syntax.proofs.Vocabulary.{subst, ◌∙◌, if_ok_map, prefix_tree, quantifier_tree, MOST_VARIABLES}
-use Rattle.policy_syntax.proofs.Vocabulary.{Depth, PolicyLexeme, Symbol, Prefix, Infix, Quantifier, lexeme_of}
-use Rattle.policy_syntax.proofs.Vocabulary.{begins_inner, FormulaRead, OrRead, AndRead, InfixRead, UnaryRead}
-use Rattle.policy_syntax.proofs.Vocabulary.{PrimaryRead, SyntaxTree, syntax_tree_of, Not, And, Or, Arrow, SyntaxFormula}
-use Rattle.policy_syntax.proofs.Vocabulary.{StackItem, AndTail, ArrowTail, BehindVariable, BoundVariable, InfixTail}
-use Rattle.policy_syntax.proofs.Vocabulary.{OpenInterval, Operand, OrTail, ParenthesisEnd, and_on, formula_on, infix_on}
-use Rattle.policy_syntax.proofs.Vocabulary.{stack_item, or_on}
+use Rattle.policy_syntax.proofs.Vocabulary.{◌≡◌, false, refl, ◌+◌, ◌≤◌, [], ◌∷◌, length, sym, ap, subst, ◌∙◌, if_ok_map, prefix_tree, quantifier_tree, MOST_VARIABLES, Depth, PolicyLexeme, Symbol}
+use Rattle.policy_syntax.proofs.Vocabulary.{Prefix, Infix, Quantifier, lexeme_of, begins_inner, FormulaRead, OrRead, AndRead, InfixRead, UnaryRead, PrimaryRead, SyntaxTree, syntax_tree_of, Not, And}
+use Rattle.policy_syntax.proofs.Vocabulary.{Or, Arrow, SyntaxFormula, StackItem, AndTail, ArrowTail, BehindVariable, BoundVariable, InfixTail, OpenInterval, Operand, OrTail, ParenthesisEnd, and_on}
+use Rattle.policy_syntax.proofs.Vocabulary.{formula_on, infix_on, stack_item, or_on}
 use Rattle.policy_syntax.specs.machine.PartOutcomes.{Continues}
 use Rattle.policy_syntax.proofs.FormulaPhrases.{not_at, not_infix, taken_is}
-use Rattle.policy_syntax.proofs.FormulaMoves.{and_ends, and_is, arrow_ends, arrow_is, close_paren, dot, dot_barred}
-use Rattle.policy_syntax.proofs.FormulaMoves.{infix_ends, infix_is, not_inner, not_is, only_close_paren, open_paren}
-use Rattle.policy_syntax.proofs.FormulaMoves.{or_ends, or_is, prefix_is, quantifier_is}
+use Rattle.policy_syntax.proofs.FormulaMoves.{and_ends, and_is, arrow_ends, arrow_is, close_paren, dot, dot_barred, infix_ends, infix_is, not_inner, not_is, only_close_paren, open_paren, or_ends}
+use Rattle.policy_syntax.proofs.FormulaMoves.{or_is, prefix_is, quantifier_is}
 use Rattle.policy_syntax.proofs.PartMoves.{mark_barred, mark_stops, mark_taken, operator_barred, operator_taken}
-use Rattle.policy_syntax.proofs.AutomatonSteps.{after, and_then, follows_err, follows_no_memory, over, refused_after}
-use Rattle.policy_syntax.proofs.AutomatonSteps.{refused_over, refused_then}
+use Rattle.policy_syntax.proofs.AutomatonSteps.{after, and_then, follows_err, follows_no_memory, over, refused_after, refused_over, refused_then}
 use Rattle.policy_syntax.specs.meaning.Trees as tree
 use Rattle.policy_syntax.proofs.FormulaPhrases as phrases
 use Rattle.policy_syntax.proofs.reader.+formulas.Goals as goal

@@ -1,5 +1,4 @@
-use Rattle.policy_syntax.proofs.Vocabulary.{List, sym, ap, subst, ◌∙◌, if_ok_map, PlacedLexeme, lexeme_of}
-use Rattle.policy_syntax.proofs.Vocabulary.{PrimaryRead, TermRead, syntax_tree_of, SyntaxFormula}
+use Rattle.policy_syntax.proofs.Vocabulary.{List, sym, ap, subst, ◌∙◌, if_ok_map, PlacedLexeme, lexeme_of, PrimaryRead, TermRead, syntax_tree_of, SyntaxFormula}
 use Rattle.policy_syntax.proofs.FormulaMoves.{IsNoTruth, no_truth, side_barred, side_taken}
 use Rattle.policy_syntax.proofs.PartMoves.{IsNoName, no_name}
 use Rattle.policy_syntax.proofs.AutomatonSteps.{follows_after, follows_err}

@@ -1,14 +1,10 @@
 use Rattle.policy_syntax.proofs.RulePhrases.{rule_read}
-use Rattle.policy_syntax.proofs.Vocabulary.{◌≡◌, ◌<◌, ◌≤◌, true, false, [], ◌∷◌, ◌++◌, length}
-use Rattle.policy_syntax.proofs.Vocabulary.{Some, refl, sym, ap, ◌∙◌, arith, RuleColon, RuleEnd, formula_on}
-use Rattle.policy_syntax.proofs.Vocabulary.{stack_item, start_stack, next_lexeme_of, PolicyLexeme, NameLexeme}
-use Rattle.policy_syntax.proofs.Vocabulary.{next_lexeme, is_name_of, syntax_rule_names, MOST_RULES, MOST_VARIABLES}
-use Rattle.policy_syntax.proofs.Vocabulary.{Parts}
+use Rattle.policy_syntax.proofs.Vocabulary.{◌≡◌, ◌<◌, ◌≤◌, true, false, [], ◌∷◌, ◌++◌, length, Some, refl, sym, ap, ◌∙◌, arith, RuleColon, RuleEnd, formula_on, stack_item, start_stack, next_lexeme_of}
+use Rattle.policy_syntax.proofs.Vocabulary.{PolicyLexeme, NameLexeme, next_lexeme, is_name_of, syntax_rule_names, MOST_RULES, MOST_VARIABLES, Parts}
 use Rattle.policy_syntax.proofs.FormulaPhrases.{not_at}
 use Rattle.policy_syntax.proofs.PartMoves.{mark_barred, mark_taken}
-use Rattle.policy_syntax.proofs.RuleMoves.{alone, colon, length_names, only_colon, only_semicolon, refused_alone}
-use Rattle.policy_syntax.proofs.RuleMoves.{rule_barred, rule_err, rule_many, rule_name_barred, rule_name_taken}
-use Rattle.policy_syntax.proofs.RuleMoves.{rule_name_used, rule_other, rule_taken, semicolon}
+use Rattle.policy_syntax.proofs.RuleMoves.{alone, colon, length_names, only_colon, only_semicolon, refused_alone, rule_barred, rule_err, rule_many, rule_name_barred, rule_name_taken, rule_name_used}
+use Rattle.policy_syntax.proofs.RuleMoves.{rule_other, rule_taken, semicolon}
 use Rattle.policy_syntax.proofs.AutomatonSteps.{after, and_then, refused_after, refused_then}
 use Rattle.policy_syntax.proofs.reader.read_rule.Goals as goal
 

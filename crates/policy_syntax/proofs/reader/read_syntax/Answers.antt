@@ -1,7 +1,5 @@
-use Rattle.policy_syntax.proofs.Vocabulary.{◌≡◌, ℕ, List, [], ◌∷◌, ◌++◌, map, Ok, refl, sym, ap}
-use Rattle.policy_syntax.proofs.Vocabulary.{subst, ◌∙◌, arith, append-nil, start_stack, judge_from, PlacedLexeme}
-use Rattle.policy_syntax.proofs.Vocabulary.{lexemes, PolicyRead, syntax_rule_names, PolicyRule, policy_rule_of}
-use Rattle.policy_syntax.proofs.Vocabulary.{NoMemory, SyntaxRule}
+use Rattle.policy_syntax.proofs.Vocabulary.{◌≡◌, ℕ, List, [], ◌∷◌, ◌++◌, map, Ok, refl, sym, ap, subst, ◌∙◌, arith, append-nil, start_stack, judge_from, PlacedLexeme, lexemes, PolicyRead}
+use Rattle.policy_syntax.proofs.Vocabulary.{syntax_rule_names, PolicyRule, policy_rule_of, NoMemory, SyntaxRule}
 use Rattle.policy_syntax.specs.machine.Automaton.{judge}
 use Rattle.policy_syntax.proofs.ReaderAnswer.{answers_err, read_text}
 use Rattle.policy_syntax.proofs.FormulaPhrases.{not_at}

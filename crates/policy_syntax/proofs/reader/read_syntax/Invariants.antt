@@ -1,6 +1,5 @@
-use Rattle.policy_syntax.proofs.Vocabulary.{◌≡◌, ◌-◌, ℕ, List, [], ◌++◌, length, map, start_stack}
-use Rattle.policy_syntax.proofs.Vocabulary.{judge_from, PlacedLexeme, lexemes, PolicyRead, syntax_rule_names}
-use Rattle.policy_syntax.proofs.Vocabulary.{PolicyRule, policy_rule_of, Parts, SyntaxRule}
+use Rattle.policy_syntax.proofs.Vocabulary.{◌≡◌, ◌-◌, ℕ, List, [], ◌++◌, length, map, start_stack, judge_from, PlacedLexeme, lexemes, PolicyRead, syntax_rule_names, PolicyRule, policy_rule_of, Parts}
+use Rattle.policy_syntax.proofs.Vocabulary.{SyntaxRule}
 use Rattle.policy_syntax.specs.machine.Automaton.{judge}
 use Rattle.policy_syntax.proofs.reader.read_syntax.Given as goal
 

@@ -1,9 +1,6 @@
-use Rattle.policy_syntax.proofs.Vocabulary.{ℕ, List, [], ◌∷◌, codes, Option, Some, None, true, false, refl}
-use Rattle.policy_syntax.proofs.Vocabulary.{case_binding, ArgumentsPhrase, IntervalPhrase, RulePhrase, FormulaPhrase}
-use Rattle.policy_syntax.proofs.Vocabulary.{TermsPhrase, OneSide, Implication, OneCase, Disjunction, OnePart}
-use Rattle.policy_syntax.proofs.Vocabulary.{Conjunction, OneOperand, Between, Negation, Before, Quantified, Primary}
-use Rattle.policy_syntax.proofs.Vocabulary.{Parenthesis, Constant, Event, Comparison, Variable, Plain, LastTerm}
-use Rattle.policy_syntax.proofs.Vocabulary.{LastVariable, NextVariable}
+use Rattle.policy_syntax.proofs.Vocabulary.{ℕ, List, [], ◌∷◌, codes, Option, Some, None, true, false, refl, case_binding, ArgumentsPhrase, IntervalPhrase, RulePhrase, FormulaPhrase, TermsPhrase}
+use Rattle.policy_syntax.proofs.Vocabulary.{OneSide, Implication, OneCase, Disjunction, OnePart, Conjunction, OneOperand, Between, Negation, Before, Quantified, Primary, Parenthesis, Constant, Event}
+use Rattle.policy_syntax.proofs.Vocabulary.{Comparison, Variable, Plain, LastTerm, LastVariable, NextVariable}
 use Rattle.policy_syntax.specs.declared.lexemes.Infix.TheVariants as infix_words
 use Rattle.policy_syntax.specs.declared.lexemes.Prefix.TheVariants as prefix_words
 use Rattle.policy_syntax.specs.declared.lexemes.Quantifier.TheVariants as quantifier_words

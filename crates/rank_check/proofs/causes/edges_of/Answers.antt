@@ -1,6 +1,5 @@
-use Rattle.rank_check.proofs.Vocabulary.{◌≡◌, ◌∙◌, ◌<◌, [], List, ℕ, length, get_or, map, true, sym}
-use Rattle.rank_check.proofs.Vocabulary.{subst, arith, length-map, take_all, get_or_from_slice_get, NameId, Plan}
-use Rattle.rank_check.proofs.Vocabulary.{plan_of, plan_at, AddsEdges, Causes, none_in_nil}
+use Rattle.rank_check.proofs.Vocabulary.{◌≡◌, ◌∙◌, ◌<◌, [], List, ℕ, length, get_or, map, true, sym, subst, arith, length-map, take_all, get_or_from_slice_get, NameId, Plan, plan_of, plan_at}
+use Rattle.rank_check.proofs.Vocabulary.{AddsEdges, Causes, none_in_nil}
 use Rattle.rank_check.proofs.CauseLemmas.{CausedIn, one_more_plan, just_edges}
 use Rattle.rank_check.proofs.MatrixLemmas.{nothing}
 use Rattle.rank_check.proofs.causes.edges_of.Goals as goal

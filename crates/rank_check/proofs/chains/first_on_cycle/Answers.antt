@@ -1,5 +1,4 @@
-use Rattle.rank_check.proofs.Vocabulary.{Option, Some, None, IfSome, IfNone, NameId, IsOnCycle, IsClosure, HasEdge}
-use Rattle.rank_check.proofs.Vocabulary.{EdgeTable, IsFirstName}
+use Rattle.rank_check.proofs.Vocabulary.{Option, Some, None, IfSome, IfNone, NameId, IsOnCycle, IsClosure, HasEdge, EdgeTable, IsFirstName}
 use Rattle.rank_check.proofs.chains.first_on_cycle.Goals as goal
 
 found_of : (edges closed : EdgeTable) (first : Option NameId) → IsClosure edges closed → IfSome first (IsFirstName (λ name. HasEdge closed name name))

@@ -1,7 +1,5 @@
-use Rattle.rank_check.proofs.Vocabulary.{◌≡◌, ℕ, zero, suc, ◌+◌, ◌≤◌, List, ◌++◌, length}
-use Rattle.rank_check.proofs.Vocabulary.{replicate, take, drop, arith, refl, sym, ap, subst, ◌∙◌}
-use Rattle.rank_check.proofs.Vocabulary.{length-replicate, NameId, IsOnCycle, IsRank, IsRankWithin, HasEdge, EdgeTable}
-use Rattle.rank_check.proofs.Vocabulary.{greatest, rank_in}
+use Rattle.rank_check.proofs.Vocabulary.{◌≡◌, ℕ, zero, suc, ◌+◌, ◌≤◌, List, ◌++◌, length, replicate, take, drop, arith, refl, sym, ap, subst, ◌∙◌, length-replicate, NameId, IsOnCycle, IsRank}
+use Rattle.rank_check.proofs.Vocabulary.{IsRankWithin, HasEdge, EdgeTable, greatest, rank_in}
 use Rattle.rank_check.proofs.RankLemmas.{is_rank, none_longer, ranks_small, short, within_none, written, zeros}
 use Rattle.rank_check.proofs.chains.ranks_of.Goals as goal
 

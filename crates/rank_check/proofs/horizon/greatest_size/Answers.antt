@@ -1,5 +1,4 @@
-use Rattle.rank_check.proofs.Vocabulary.{◌≡◌, max, arith, map, rules, take, common_steps, plan_of, plan_size}
-use Rattle.rank_check.proofs.Vocabulary.{IsSmallPlan}
+use Rattle.rank_check.proofs.Vocabulary.{◌≡◌, max, arith, map, rules, take, common_steps, plan_of, plan_size, IsSmallPlan}
 use Rattle.rank_check.proofs.SurveyLemmas.{item_push, measure_push, of_item}
 use Rattle.rank_check.proofs.horizon.greatest_size.Goals as goal
 

@@ -1,9 +1,6 @@
-use Rattle.rank_check.proofs.Vocabulary.{rules, ◌≡◌, ℕ, ◌+◌, ◌*◌, ◌≤◌, max, List, [], ◌∷◌}
-use Rattle.rank_check.proofs.Vocabulary.{◌++◌, arith, map, take, ap, subst, sym, ◌∙◌, AllByRecursion}
-use Rattle.rank_check.proofs.Vocabulary.{flat_map, common_steps, take_all, mul-le, AllByRecursion-weaker, EndsInTime}
-use Rattle.rank_check.proofs.Vocabulary.{IsSmallPlan, nodes, window_end, Plan, CausePlan, SuppressPlan, Both, Either}
-use Rattle.rank_check.proofs.Vocabulary.{TestOr, Guarded, EventuallyPlan, AlwaysPlan, UntilPlan, NextPlan, plan_of}
-use Rattle.rank_check.proofs.Vocabulary.{class_in, greatest, plan_size}
+use Rattle.rank_check.proofs.Vocabulary.{rules, ◌≡◌, ℕ, ◌+◌, ◌*◌, ◌≤◌, max, List, [], ◌∷◌, ◌++◌, arith, map, take, ap, subst, sym, ◌∙◌, AllByRecursion, flat_map, common_steps, take_all, mul-le}
+use Rattle.rank_check.proofs.Vocabulary.{AllByRecursion-weaker, EndsInTime, IsSmallPlan, nodes, window_end, Plan, CausePlan, SuppressPlan, Both, Either, TestOr, Guarded, EventuallyPlan, AlwaysPlan}
+use Rattle.rank_check.proofs.Vocabulary.{UntilPlan, NextPlan, plan_of, class_in, greatest, plan_size}
 use Rattle.plan_terms.specs.declared.plans.Plan.{Plan as Stored}
 use Rattle.rank_check.proofs.SurveyLemmas.{item_push, measure-le, of_item, over, over-le, over_push}
 use Rattle.rank_check.proofs.horizon.horizon.Goals as goal

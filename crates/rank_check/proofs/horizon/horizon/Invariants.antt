@@ -1,5 +1,4 @@
-use Rattle.rank_check.proofs.Vocabulary.{◌≡◌, ◌+◌, ◌*◌, ◌≤◌, map, take, plan_of, class_in, greatest}
-use Rattle.rank_check.proofs.Vocabulary.{with_deadlines, window_end}
+use Rattle.rank_check.proofs.Vocabulary.{◌≡◌, ◌+◌, ◌*◌, ◌≤◌, map, take, plan_of, class_in, greatest, with_deadlines, window_end}
 use Rattle.rank_check.proofs.horizon.horizon.Given as goal
 
 abbrev pub invariant-loop-plan : goal.invariant-loop-plan

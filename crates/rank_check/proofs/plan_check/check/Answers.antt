@@ -1,5 +1,4 @@
-use Rattle.rank_check.proofs.Vocabulary.{◌∙◌, ap, List, map, sym, Plan, plan_of, horizon_of, rank_in, HasEdge}
-use Rattle.rank_check.proofs.Vocabulary.{Edge}
+use Rattle.rank_check.proofs.Vocabulary.{◌∙◌, ap, List, map, sym, Plan, plan_of, horizon_of, rank_in, HasEdge, Edge}
 use Rattle.rank_check.proofs.CheckLemmas.{cycle_back, first_there, rank_there}
 use Rattle.rank_check.proofs.plan_check.check.Goals as goal
 

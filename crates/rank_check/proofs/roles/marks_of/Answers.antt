@@ -1,5 +1,4 @@
-use Rattle.rank_check.proofs.Vocabulary.{List, subst, arith, ◌∙◌, Contains, length-set, take_all, Contains-get_or}
-use Rattle.rank_check.proofs.Vocabulary.{NameId}
+use Rattle.rank_check.proofs.Vocabulary.{List, subst, arith, ◌∙◌, Contains, length-set, take_all, Contains-get_or, NameId}
 use Rattle.rank_check.proofs.RoleLemmas.{one_more, Tells}
 use Rattle.rank_check.proofs.roles.marks_of.Goals as goal
 

@@ -1,8 +1,6 @@
-use Rattle.rank_check.proofs.Vocabulary.{◌≡◌, ◌∷◌, [], ◌↔◌, List, IsTrue, map, subst, arith}
-use Rattle.rank_check.proofs.Vocabulary.{◌∙◌, Contains, inl, inr, length-append, flat_map, NameId, Plan}
-use Rattle.rank_check.proofs.Vocabulary.{caused_below, suppressed_below, IsCaused, IsSuppressed, plan_of}
-use Rattle.rank_check.proofs.RoleLemmas.{read, has_role, first_clash, clear_more, roles_more, roles_of_all}
-use Rattle.rank_check.proofs.RoleLemmas.{nothing_clashes, Tells}
+use Rattle.rank_check.proofs.Vocabulary.{◌≡◌, ◌∷◌, [], ◌↔◌, List, IsTrue, map, subst, arith, ◌∙◌, Contains, inl, inr, length-append, flat_map, NameId, Plan, caused_below, suppressed_below, IsCaused}
+use Rattle.rank_check.proofs.Vocabulary.{IsSuppressed, plan_of}
+use Rattle.rank_check.proofs.RoleLemmas.{read, has_role, first_clash, clear_more, roles_more, roles_of_all, nothing_clashes, Tells}
 use Rattle.rank_check.proofs.roles.roles_of.Goals as goal
 
 pub marks_of-requires : goal.marks_of-requires

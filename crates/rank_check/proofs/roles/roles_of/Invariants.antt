@@ -1,5 +1,4 @@
-use Rattle.rank_check.proofs.Vocabulary.{◌≡◌, ◌<◌, length, map, NameId, plan_of, role_in, NameHasRole}
-use Rattle.rank_check.proofs.Vocabulary.{Clashes}
+use Rattle.rank_check.proofs.Vocabulary.{◌≡◌, ◌<◌, length, map, NameId, plan_of, role_in, NameHasRole, Clashes}
 use Rattle.rank_check.proofs.roles.roles_of.Given as goal
 
 abbrev pub invariant-loop-number : goal.invariant-loop-number

@@ -1,6 +1,4 @@
-use Rattle.rank_check.proofs.Vocabulary.{rules, ◌≡◌, Bool, List, [], ◌∷◌, ◌&&◌, map, refl, ap}
-use Rattle.rank_check.proofs.Vocabulary.{◌∙◌, list_all, YieldsList-from_slice, all_from_yields_List, nodes, Plan}
-use Rattle.rank_check.proofs.Vocabulary.{plan_of, is_transparent_at}
+use Rattle.rank_check.proofs.Vocabulary.{rules, ◌≡◌, Bool, List, [], ◌∷◌, ◌&&◌, map, refl, ap, ◌∙◌, list_all, YieldsList-from_slice, all_from_yields_List, nodes, Plan, plan_of, is_transparent_at}
 use Rattle.plan_terms.specs.declared.plans.Plan.{Plan as Stored}
 use Rattle.rank_check.proofs.transparent.is_transparent.Goals as goal
 

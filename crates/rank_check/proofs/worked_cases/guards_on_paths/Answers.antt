@@ -1,8 +1,6 @@
-use Rattle.rank_check.proofs.Vocabulary.{◌≡◌, ℕ, zero, suc, ◌+◌, true, List, [], ◌∷◌, Contains, None}
-use Rattle.rank_check.proofs.Vocabulary.{Some, refl, ap, subst, sym, arith, ⊎_elim, slice_get, name_p, name_q, NameId}
-use Rattle.rank_check.proofs.Vocabulary.{each_soon, soon_q_x, nodes, node_number, Plan, IsNumberedPlan, here, later}
-use Rattle.rank_check.proofs.Vocabulary.{first_or_later, none_in_nil, name_r, guarded_twice, then_always_guarded}
-use Rattle.rank_check.proofs.Vocabulary.{then_always_q, Edge, Causes, first_place, visits}
+use Rattle.rank_check.proofs.Vocabulary.{◌≡◌, ℕ, zero, suc, ◌+◌, true, List, [], ◌∷◌, Contains, None, Some, refl, ap, subst, sym, arith, ⊎_elim, slice_get, name_p, name_q, NameId, each_soon, soon_q_x}
+use Rattle.rank_check.proofs.Vocabulary.{nodes, node_number, Plan, IsNumberedPlan, here, later, first_or_later, none_in_nil, name_r, guarded_twice, then_always_guarded, then_always_q, Edge, Causes}
+use Rattle.rank_check.proofs.Vocabulary.{first_place, visits}
 use Rattle.rank_check.proofs.BareLemmas.{first_of_plans, none_bare, none_in_plan, NoneBefore}
 use Rattle.rank_check.proofs.CauseLemmas.{edge_if_caused, caused_if_edge}
 use Rattle.rank_check.proofs.worked_cases.guards_on_paths.Goals as goal

@@ -1,6 +1,5 @@
-use Rattle.rank_check.proofs.Vocabulary.{[], ◌∷◌, List, Contains, arith, refl, inl, inr, here as first, name_p}
-use Rattle.rank_check.proofs.Vocabulary.{name_q, each_soon, soon_q_x, plan_cause_q_x, CausePlan, SuppressPlan}
-use Rattle.rank_check.proofs.Vocabulary.{EventuallyPlan, AlwaysPlan, name_r, three_in_turn, then_always_q, q_until_p}
+use Rattle.rank_check.proofs.Vocabulary.{[], ◌∷◌, List, Contains, arith, refl, inl, inr, here as first, name_p, name_q, each_soon, soon_q_x, plan_cause_q_x, CausePlan, SuppressPlan, EventuallyPlan}
+use Rattle.rank_check.proofs.Vocabulary.{AlwaysPlan, name_r, three_in_turn, then_always_q, q_until_p}
 use Rattle.rank_check.proofs.CaseLemmas.{edge_of, turn_of_two}
 use Rattle.rank_check.proofs.worked_cases.paths.Goals as goal
 

@@ -1,5 +1,4 @@
-use Rattle.rank_check.proofs.Vocabulary.{refl, arith, name_p, name_q, name_r, in_a_row, two_in_turn, EdgesLead, Edge}
-use Rattle.rank_check.proofs.Vocabulary.{IsRank}
+use Rattle.rank_check.proofs.Vocabulary.{refl, arith, name_p, name_q, name_r, in_a_row, two_in_turn, EdgesLead, Edge, IsRank}
 use Rattle.rank_check.proofs.CaseLemmas.{edge_of, no_longer, turn_of_two}
 use Rattle.rank_check.proofs.ChainLemmas.{no_rank}
 use Rattle.rank_check.proofs.worked_cases.ranks.Goals as goal

@@ -1,9 +1,6 @@
-use Rattle.rank_check.proofs.Vocabulary.{ℕ, zero, suc, ◌-◌, ◌<◌, ◌≤◌, List, [], ◌∷◌, ◌++◌}
-use Rattle.rank_check.proofs.Vocabulary.{length, map, inl, refl, subst, arith, lit<, lit≤, true≢false}
-use Rattle.rank_check.proofs.Vocabulary.{All-from_recursion, IsTrace, no_step, step_at, none_in_nil, HasNoRepeats}
-use Rattle.rank_check.proofs.Vocabulary.{no_values, Step, at_time, empty_step, event_p, event_q, name_p, Formula, Sat}
-use Rattle.rank_check.proofs.Vocabulary.{Good, plan_cause_q, IsAhead, obligation, formula_for, Plan, SuppressPlan}
-use Rattle.rank_check.proofs.Vocabulary.{Either, EventuallyPlan, UntilPlan, q_soon}
+use Rattle.rank_check.proofs.Vocabulary.{ℕ, zero, suc, ◌-◌, ◌<◌, ◌≤◌, List, [], ◌∷◌, ◌++◌, length, map, inl, refl, subst, arith, lit<, lit≤, true≢false, All-from_recursion, IsTrace, no_step, step_at}
+use Rattle.rank_check.proofs.Vocabulary.{none_in_nil, HasNoRepeats, no_values, Step, at_time, empty_step, event_p, event_q, name_p, Formula, Sat, Good, plan_cause_q, IsAhead, obligation, formula_for}
+use Rattle.rank_check.proofs.Vocabulary.{Plan, SuppressPlan, Either, EventuallyPlan, UntilPlan, q_soon}
 use Rattle.rank_check.proofs.worked_cases.without_the_mark.Goals as goal
 
 abbrev either : Plan

@@ -1,7 +1,6 @@
 -- The names are those that the bytes spell.
-use Rattle.save_codec.proofs.Vocabulary.{◌≡◌, ◌∙◌, [], List, Ok, map, ap, sym, subst, AllByRecursion}
-use Rattle.save_codec.proofs.Vocabulary.{NameEntry, Plan, plan_of, IsScopedPlan, all_operators, numbered_operators}
-use Rattle.save_codec.proofs.Vocabulary.{numbered_operator, WindowShape, KnowRules, KnowWindows}
+use Rattle.save_codec.proofs.Vocabulary.{◌≡◌, ◌∙◌, [], List, Ok, map, ap, sym, subst, AllByRecursion, NameEntry, Plan, plan_of, IsScopedPlan, all_operators, numbered_operators, numbered_operator}
+use Rattle.save_codec.proofs.Vocabulary.{WindowShape, KnowRules, KnowWindows}
 use Rattle.save_codec.proofs.resuming.judge_of.Goals as goal
 
 pub returns : goal.returns

@@ -1,7 +1,5 @@
 -- The lines of the text are those of a state, or one of them breaks the bounds.
-use Rattle.save_codec.proofs.Vocabulary.{map, refl, IfErr-weaker, IfOk-weaker, plan_of, tree_in, SaveSetting}
-use Rattle.save_codec.proofs.Vocabulary.{KeepsBounds, IsTextOfLines, lines_of, IsStateOf, IsUnfitLine, lines_in}
-use Rattle.save_codec.proofs.Vocabulary.{IsSaveRefusal}
+use Rattle.save_codec.proofs.Vocabulary.{map, refl, IfErr-weaker, IfOk-weaker, plan_of, tree_in, SaveSetting, KeepsBounds, IsTextOfLines, lines_of, IsStateOf, IsUnfitLine, lines_in, IsSaveRefusal}
 use Rattle.save_codec.proofs.ResumeLemmas.{keeps_bounds, lines_refused, state_text, text_of_parts}
 use Rattle.save_codec.proofs.resuming.resume.Goals as goal
 

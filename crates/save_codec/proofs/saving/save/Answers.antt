@@ -1,7 +1,6 @@
 -- The parts of the text were printed in order.
-use Rattle.save_codec.proofs.Vocabulary.{◌++◌, All, List, ap, sym, subst, ◌∙◌, map, KeptRow, Instance}
-use Rattle.save_codec.proofs.Vocabulary.{IsTextOfLines, head_text, line_text, lines_text, due_line, lines_of, row_line}
-use Rattle.save_codec.proofs.Vocabulary.{IsStoredInstance, IsStoredRow, Clock, Last, Position}
+use Rattle.save_codec.proofs.Vocabulary.{◌++◌, All, List, ap, sym, subst, ◌∙◌, map, KeptRow, Instance, IsTextOfLines, head_text, line_text, lines_text, due_line, lines_of, row_line, IsStoredInstance}
+use Rattle.save_codec.proofs.Vocabulary.{IsStoredRow, Clock, Last, Position}
 use Rattle.save_codec.proofs.SavedParts.{saved_parts}
 use Rattle.save_codec.proofs.SavedTexts.{lines_are, saved_is_text}
 use Rattle.save_codec.proofs.saving.save.Goals as goal

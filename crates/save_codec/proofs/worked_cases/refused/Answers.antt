@@ -1,7 +1,6 @@
 -- A byte of the head is another, and a number or a row breaks a bound.
-use Rattle.save_codec.proofs.Vocabulary.{◌≡◌, ◌∷◌, [], ℕ, List, None, Some, true, slice_index, ap, refl}
-use Rattle.save_codec.proofs.Vocabulary.{sym, arith, All-head, All-nil, none-some, IsKeepable, KeptRow, kept_row_of}
-use Rattle.save_codec.proofs.Vocabulary.{save_case_setting, RowLine}
+use Rattle.save_codec.proofs.Vocabulary.{◌≡◌, ◌∷◌, [], ℕ, List, None, Some, true, slice_index, ap, refl, sym, arith, All-head, All-nil, none-some, IsKeepable, KeptRow, kept_row_of, save_case_setting}
+use Rattle.save_codec.proofs.Vocabulary.{RowLine}
 use Rattle.save_codec.proofs.StateLemmas.{keep_is_within, unfit_last, unfit_position, unfit_row}
 use Rattle.save_codec.proofs.worked_cases.refused.Goals as goal
 

@@ -1,9 +1,6 @@
-use Rattle.signature.proofs.Vocabulary.{◌≡◌, Err, ap, subst, sym, refl, ◌∙◌, length, rules, true≢false}
-use Rattle.signature.proofs.Vocabulary.{SymbolToken, tokens_at, placed_of, token_of, Arrow, onto_tokens, without_arrows}
-use Rattle.signature.proofs.Vocabulary.{Syntax}
+use Rattle.signature.proofs.Vocabulary.{◌≡◌, Err, ap, subst, sym, refl, ◌∙◌, length, rules, true≢false, SymbolToken, tokens_at, placed_of, token_of, Arrow, onto_tokens, without_arrows, Syntax}
 use Rattle.signature.proofs.Answering.{ended}
-use Rattle.signature.proofs.Loop.{Reads, arrow_refused, at_end, ended_within, not_taken, past_token, plain_token}
-use Rattle.signature.proofs.Loop.{reads_ok, reads_refused}
+use Rattle.signature.proofs.Loop.{Reads, arrow_refused, at_end, ended_within, not_taken, past_token, plain_token, reads_ok, reads_refused}
 use Rattle.signature.proofs.reading.read.Goals as goal
 
 pub loop-part-preserved : goal.loop-part-preserved

@@ -1,5 +1,4 @@
-use Rattle.sleepers.proofs.Vocabulary.{rules, ◌≡◌, ℕ, true, false, sym, subst, ◌∙◌, AreAlike}
-use Rattle.sleepers.proofs.Vocabulary.{StandsAsleep, StandsAwake, entries_at}
+use Rattle.sleepers.proofs.Vocabulary.{rules, ◌≡◌, ℕ, true, false, sym, subst, ◌∙◌, AreAlike, StandsAsleep, StandsAwake, entries_at}
 use Rattle.sleepers.proofs.NotedGroupLemmas.{all_awake, found_by_index, retained}
 use Rattle.sleepers.proofs.awake_groups.awake.Goals as goal
 

@@ -1,5 +1,4 @@
-use Rattle.sleepers.proofs.Vocabulary.{rules, ◌≡◌, ◌<◌, [], ◌∷◌, refl, arith, length, IsPlaceBefore}
-use Rattle.sleepers.proofs.Vocabulary.{Place}
+use Rattle.sleepers.proofs.Vocabulary.{rules, ◌≡◌, ◌<◌, [], ◌∷◌, refl, arith, length, IsPlaceBefore, Place}
 use Rattle.sleepers.proofs.places.+compare.Goals as goal
 
 short_before : (p q : Place) → length p ≡ 0 → 0 < length q → IsPlaceBefore p q

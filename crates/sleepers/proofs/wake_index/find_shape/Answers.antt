@@ -1,5 +1,4 @@
-use Rattle.sleepers.proofs.Vocabulary.{◌≡◌, ℕ, ◌≤◌, ap, sym, subst, ◌∙◌, on_ok_weaker}
-use Rattle.sleepers.proofs.Vocabulary.{masked_values}
+use Rattle.sleepers.proofs.Vocabulary.{◌≡◌, ℕ, ◌≤◌, ap, sym, subst, ◌∙◌, on_ok_weaker, masked_values}
 use Rattle.sleepers.specs.machine.PatternKeys.{pattern_key}
 use Rattle.sleepers.proofs.KeyLemmas.{shape_found}
 use Rattle.sleepers.proofs.wake_index.find_shape.Goals as goal

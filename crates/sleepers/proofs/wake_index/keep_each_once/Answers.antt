@@ -1,5 +1,4 @@
-use Rattle.sleepers.proofs.Vocabulary.{◌≡◌, ℕ, List, Contains, nat_eq, sym, subst, dedup, dedup_is}
-use Rattle.sleepers.proofs.Vocabulary.{Contains-dedup_nat, Contains-permutation, IsStrictlyIncreasing-dedup}
+use Rattle.sleepers.proofs.Vocabulary.{◌≡◌, ℕ, List, Contains, nat_eq, sym, subst, dedup, dedup_is, Contains-dedup_nat, Contains-permutation, IsStrictlyIncreasing-dedup}
 use Rattle.sleepers.proofs.Vocabulary.{sorted_from_strictly_increasing, HasNoRepeats}
 use Rattle.sleepers.proofs.PairLemmas.{rising_once}
 use Rattle.sleepers.proofs.wake_index.keep_each_once.Goals as goal

@@ -1,5 +1,4 @@
-use Rattle.sleepers.proofs.Vocabulary.{[], ◌∷◌, ◌≡◌, ℕ, Contains, ◌⊎◌, ⊎_elim, arith, refl, inl}
-use Rattle.sleepers.proofs.Vocabulary.{inr, ap, length, here, later, first_or_later, none_in_nil}
+use Rattle.sleepers.proofs.Vocabulary.{[], ◌∷◌, ◌≡◌, ℕ, Contains, ◌⊎◌, ⊎_elim, arith, refl, inl, inr, ap, length, here, later, first_or_later, none_in_nil}
 use Rattle.sleepers.proofs.worked_cases.all_but_ones.Goals as goal
 
 -- the items of a list of two

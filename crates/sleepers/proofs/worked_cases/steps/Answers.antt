@@ -1,6 +1,5 @@
-use Rattle.sleepers.proofs.Vocabulary.{ℕ, [], ◌∷◌, Contains, inl, ⊎_elim, refl, sym, subst, arith, here}
-use Rattle.sleepers.proofs.Vocabulary.{first_or_later, none_in_nil, any_pattern, ended, sleeper, ArePlaced, IsAsleep}
-use Rattle.sleepers.proofs.Vocabulary.{entry_places, IsPlaceBefore, Place, beginning_at, Entry}
+use Rattle.sleepers.proofs.Vocabulary.{ℕ, [], ◌∷◌, Contains, inl, ⊎_elim, refl, sym, subst, arith, here, first_or_later, none_in_nil, any_pattern, ended, sleeper, ArePlaced, IsAsleep, entry_places}
+use Rattle.sleepers.proofs.Vocabulary.{IsPlaceBefore, Place, beginning_at, Entry}
 use Rattle.sleepers.proofs.worked_cases.steps.Goals as goal
 
 one_placed : (x : Entry ℕ) → ArePlaced (x ∷ [])

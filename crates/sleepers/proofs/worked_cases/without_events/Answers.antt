@@ -1,5 +1,4 @@
-use Rattle.sleepers.proofs.Vocabulary.{◌≡◌, [], ◌∷◌, List, None, Some, refl, arith, none_in_nil}
-use Rattle.sleepers.proofs.Vocabulary.{any_pattern, Pattern}
+use Rattle.sleepers.proofs.Vocabulary.{◌≡◌, [], ◌∷◌, List, None, Some, refl, arith, none_in_nil, any_pattern, Pattern}
 use Rattle.sleepers.proofs.worked_cases.without_events.Goals as goal
 
 pub returns-clause-before : goal.returns-clause-before

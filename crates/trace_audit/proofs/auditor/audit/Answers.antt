@@ -1,5 +1,4 @@
-use Rattle.trace_audit.proofs.Vocabulary.{◌≡◌, ◌<◌, ◌+◌, ◌++◌, ◌∷◌, ◌∙◌, [], List, length}
-use Rattle.trace_audit.proofs.Vocabulary.{get_or, take, ap, sym, subst, arith, length-take-le, take_more, Step, Audits}
+use Rattle.trace_audit.proofs.Vocabulary.{◌≡◌, ◌<◌, ◌+◌, ◌++◌, ◌∷◌, ◌∙◌, [], List, length, get_or, take, ap, sym, subst, arith, length-take-le, take_more, Step, Audits}
 use Rattle.trace_audit.proofs.AuditLemmas.{front_before, same_step, within_last}
 use Rattle.trace_audit.proofs.auditor.audit.Goals as goal
 

@@ -1,12 +1,8 @@
-use Rattle.trace_audit.proofs.Vocabulary.{rules, ◌≡◌, ◌<◌, ◌∙◌, List, length, get_or, ap, sym, subst}
-use Rattle.trace_audit.proofs.Vocabulary.{⊎_elim, true≢false, AllByRecursion, IfOk-weaker, Valuation, Step, Value}
-use Rattle.trace_audit.proofs.Vocabulary.{tree_of, plan_of, AtEach, bound_in, filled_from_row, CanEvaluatePlan}
-use Rattle.trace_audit.proofs.Vocabulary.{IsAskable, IsBegunWaiting, TellsRest, moment_of, guards_at, WaitingAsks}
-use Rattle.trace_audit.proofs.Vocabulary.{PlanHoldsAt}
+use Rattle.trace_audit.proofs.Vocabulary.{rules, ◌≡◌, ◌<◌, ◌∙◌, List, length, get_or, ap, sym, subst, ⊎_elim, true≢false, AllByRecursion, IfOk-weaker, Valuation, Step, Value, tree_of, plan_of, AtEach}
+use Rattle.trace_audit.proofs.Vocabulary.{bound_in, filled_from_row, CanEvaluatePlan, IsAskable, IsBegunWaiting, TellsRest, moment_of, guards_at, WaitingAsks, PlanHoldsAt}
 use Rattle.trace_audit.proofs.AskLemmas.{binds_bound, body_can, is_test, rows_hold, test_is, within}
-use Rattle.trace_audit.proofs.EvaluationLemmas.{TellsOf, always_begins, eventually_begins, eventually_is_early}
-use Rattle.trace_audit.proofs.EvaluationLemmas.{eventually_wakes, tells_any, tells_as, tells_row, test_fails, test_met}
-use Rattle.trace_audit.proofs.EvaluationLemmas.{until_begins, until_is_early, until_wakes}
+use Rattle.trace_audit.proofs.EvaluationLemmas.{TellsOf, always_begins, eventually_begins, eventually_is_early, eventually_wakes, tells_any, tells_as, tells_row, test_fails, test_met, until_begins}
+use Rattle.trace_audit.proofs.EvaluationLemmas.{until_is_early, until_wakes}
 use Rattle.trace_audit.specs.declared.residuals.Residual.TheVariants as stored
 use Rattle.trace_audit.proofs.evaluation.+evaluating.Goals as goal
 

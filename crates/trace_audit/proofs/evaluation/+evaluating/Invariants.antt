@@ -1,5 +1,4 @@
-use Rattle.trace_audit.proofs.Vocabulary.{◌+◌, ◌*◌, length, take, AllByRecursion, nodes, plan_of, bound_in}
-use Rattle.trace_audit.proofs.Vocabulary.{filled_from_row, TellsRest, moment_of, PlanHoldsAt}
+use Rattle.trace_audit.proofs.Vocabulary.{◌+◌, ◌*◌, length, take, AllByRecursion, nodes, plan_of, bound_in, filled_from_row, TellsRest, moment_of, PlanHoldsAt}
 use Rattle.trace_audit.proofs.evaluation.+evaluating.Given as goal
 
 abbrev pub decreases-evaluate : goal.decreases-evaluate

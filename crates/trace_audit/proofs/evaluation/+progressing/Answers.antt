@@ -1,6 +1,5 @@
-use Rattle.trace_audit.proofs.Vocabulary.{rules, ◌++◌, ◌∷◌, ◌∙◌, [], List, append_assoc, ap, sym, subst}
-use Rattle.trace_audit.proofs.Vocabulary.{IfOk-weaker, Step, TellsRest, moment_of, guards_at, ResidualCanGoOn}
-use Rattle.trace_audit.proofs.Vocabulary.{LinksMean, Means, Link, Residual, the_lemmas}
+use Rattle.trace_audit.proofs.Vocabulary.{rules, ◌++◌, ◌∷◌, ◌∙◌, [], List, append_assoc, ap, sym, subst, IfOk-weaker, Step, TellsRest, moment_of, guards_at, ResidualCanGoOn, LinksMean, Means, Link}
+use Rattle.trace_audit.proofs.Vocabulary.{Residual, the_lemmas}
 use Rattle.trace_audit.proofs.ResidualLemmas.{chain_can, chain_means}
 use Rattle.trace_audit.proofs.EvaluationLemmas.{tells_as, tells_both, tells_either}
 use Rattle.trace_audit.specs.declared.residuals.Residual.TheVariants as stored

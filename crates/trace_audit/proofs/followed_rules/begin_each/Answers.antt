@@ -1,5 +1,4 @@
-use Rattle.trace_audit.proofs.Vocabulary.{List, map, sym, subst, no_values, Step, all_at, slice_get-map_at, plan_of}
-use Rattle.trace_audit.proofs.Vocabulary.{CanEvaluatePlan, rule_at, TellsRest, moment_of, guards_at, PlanHoldsAt}
+use Rattle.trace_audit.proofs.Vocabulary.{List, map, sym, subst, no_values, Step, all_at, slice_get-map_at, plan_of, CanEvaluatePlan, rule_at, TellsRest, moment_of, guards_at, PlanHoldsAt}
 use Rattle.trace_audit.proofs.JudgementLemmas.{begins_next, can_put}
 use Rattle.trace_audit.proofs.followed_rules.begin_each.Goals as goal
 

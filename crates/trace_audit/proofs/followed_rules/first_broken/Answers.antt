@@ -1,9 +1,6 @@
-use Rattle.trace_audit.proofs.Vocabulary.{◌≡◌, ◌++◌, ◌∷◌, ◌∙◌, ◌+◌, List, drop, take, ap, sym}
-use Rattle.trace_audit.proofs.Vocabulary.{subst, true≢false, drop_all, take-append-drop, drop_at_item as dropped}
-use Rattle.trace_audit.proofs.Vocabulary.{OpenRule}
+use Rattle.trace_audit.proofs.Vocabulary.{◌≡◌, ◌++◌, ◌∷◌, ◌∙◌, ◌+◌, List, drop, take, ap, sym, subst, true≢false, drop_all, take-append-drop, drop_at_item as dropped, OpenRule}
 use Rattle.trace_audit.proofs.JudgementLemmas.{FindsFirst, finds_all, finds_behind, finds_it, finds_met}
-use Rattle.trace_audit.proofs.followed_rules.first_broken.Goals.{then-is_before+then-not-is_met_at_end, else-is_before}
-use Rattle.trace_audit.proofs.followed_rules.first_broken.Goals.{else-is_before-via-then-is_before+else-not-is_met_at_end}
+use Rattle.trace_audit.proofs.followed_rules.first_broken.Goals.{then-is_before+then-not-is_met_at_end, else-is_before, else-is_before-via-then-is_before+else-not-is_met_at_end}
 use Rattle.trace_audit.proofs.followed_rules.first_broken.Goals.{else-is_before-via-else-is_before}
 use Rattle.trace_audit.proofs.followed_rules.first_broken.Goals as goal
 

@@ -1,6 +1,5 @@
-use Rattle.trace_audit.proofs.Vocabulary.{◌≡◌, ◌∙◌, ◌∷◌, ◌++◌, [], List, ap, sym, subst, refl}
-use Rattle.trace_audit.proofs.Vocabulary.{arith, append_assoc, AllByRecursion, AllByRecursion-of_append, RulesCanGoOn}
-use Rattle.trace_audit.proofs.Vocabulary.{guards_at, moment_of, ResidualCanGoOn, OpenRule}
+use Rattle.trace_audit.proofs.Vocabulary.{◌≡◌, ◌∙◌, ◌∷◌, ◌++◌, [], List, ap, sym, subst, refl, arith, append_assoc, AllByRecursion, AllByRecursion-of_append, RulesCanGoOn, guards_at, moment_of}
+use Rattle.trace_audit.proofs.Vocabulary.{ResidualCanGoOn, OpenRule}
 use Rattle.trace_audit.proofs.JudgementLemmas.{FollowsOn, follows_all, follows_first, follows_next, none_left}
 use Rattle.trace_audit.proofs.followed_rules.follow_each.Goals as goal
 

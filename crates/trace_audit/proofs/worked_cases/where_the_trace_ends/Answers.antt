@@ -1,7 +1,5 @@
-use Rattle.trace_audit.proofs.Vocabulary.{◌≡◌, ℕ, zero, suc, ◌<◌, ◌≤◌, [], ◌∷◌, Contains, refl}
-use Rattle.trace_audit.proofs.Vocabulary.{ap, subst, arith, lit<, lit≤, same_Some, no_values, Event, event_p, event_q}
-use Rattle.trace_audit.proofs.Vocabulary.{formula_p, formula_q, Formula, Sat, elapsed, one_step, p_always_later}
-use Rattle.trace_audit.proofs.Vocabulary.{q_later, q_next, q_now, q_until_q_later, HoldsAt, IsVerdict, Fails, Holds}
+use Rattle.trace_audit.proofs.Vocabulary.{◌≡◌, ℕ, zero, suc, ◌<◌, ◌≤◌, [], ◌∷◌, Contains, refl, ap, subst, arith, lit<, lit≤, same_Some, no_values, Event, event_p, event_q, formula_p, formula_q}
+use Rattle.trace_audit.proofs.Vocabulary.{Formula, Sat, elapsed, one_step, p_always_later, q_later, q_next, q_now, q_until_q_later, HoldsAt, IsVerdict, Fails, Holds}
 use Rattle.trace_audit.proofs.worked_cases.where_the_trace_ends.Goals as goal
 
 -- the only rule of a policy fails at the only position

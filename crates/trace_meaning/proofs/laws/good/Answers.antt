@@ -1,5 +1,4 @@
-use Rattle.trace_meaning.proofs.GoodPrefixes.{satisfying_is_good, good_from_earlier, good_from_longer, front_is_good}
-use Rattle.trace_meaning.proofs.GoodPrefixes.{good_is_trace}
+use Rattle.trace_meaning.proofs.GoodPrefixes.{satisfying_is_good, good_from_earlier, good_from_longer, front_is_good, good_is_trace}
 use Rattle.trace_meaning.proofs.laws.good.Goals as goal
 
 pub returns : goal.returns

@@ -1,5 +1,4 @@
-use Rattle.std.proofs.Common.{◌≡◌, ℕ, zero, suc, ◌<◌, ◌≤◌, List, [], ◌∷◌, ◌++◌, length, map}
-use Rattle.std.proofs.Common.{Contains, arith, refl, sym, ap, subst, lit<, lit≤}
+use Rattle.std.proofs.Common.{◌≡◌, ℕ, zero, suc, ◌<◌, ◌≤◌, List, [], ◌∷◌, ◌++◌, length, map, Contains, arith, refl, sym, ap, subst, lit<, lit≤}
 use Rattle.std.proofs.lemmas.Bool.Decides.{not_from_Decides}
 use Rattle.std.proofs.lemmas.List.Elements.{All-cons, All-nil, All-from_recursion}
 use Rattle.enf_data.specs.meaning.Data.{IsTrace, step_at, no_step}
@@ -9,10 +8,8 @@ use Rattle.enf_data.specs.declared.steps.Step.{Step}
 use Rattle.enf_formula.specs.machine.Cases.{event_p, event_q, at_time, interval_between, formula_p, formula_q}
 use Rattle.enf_formula.specs.meaning.Satisfaction.{Formula, Implies, Eventually, Sat, elapsed}
 use Rattle.enf_data.specs.meaning.Membership.{HasNoRepeats, IsIn}
-use Rattle.trace_meaning.specs.machine.Cases.{inserted_at, may_cause, may_suppress, policy_p_in_time, q_at_1, q_then_p}
-use Rattle.trace_meaning.specs.machine.Cases.{system_at}
-use Rattle.trace_meaning.specs.meaning.Traces.{Good, IsCause, IsInsertedLawfully, IsLaterThan, Cause, IsUntil, OutStep}
-use Rattle.trace_meaning.specs.meaning.Traces.{event_of}
+use Rattle.trace_meaning.specs.machine.Cases.{inserted_at, may_cause, may_suppress, policy_p_in_time, q_at_1, q_then_p, system_at}
+use Rattle.trace_meaning.specs.meaning.Traces.{Good, IsCause, IsInsertedLawfully, IsLaterThan, Cause, IsUntil, OutStep, event_of}
 use Rattle.trace_meaning.specs.declared.kinds.StepKind.TheVariants.{System, Inserted}
 use Rattle.trace_meaning.proofs.Growth.{trace_begins, trace_grows}
 use Rattle.trace_meaning.proofs.worked_cases.continuing.Goals as goal

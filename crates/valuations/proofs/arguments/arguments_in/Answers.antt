@@ -1,5 +1,4 @@
-use Rattle.valuations.proofs.Vocabulary.{[], ◌∷◌, ◌++◌, Some, sym, ap, ◌∙◌, take, take_more}
-use Rattle.valuations.proofs.Vocabulary.{option_copied, values_of_terms}
+use Rattle.valuations.proofs.Vocabulary.{[], ◌∷◌, ◌++◌, Some, sym, ap, ◌∙◌, take, take_more, option_copied, values_of_terms}
 use Rattle.valuations.proofs.ArgumentLemmas.{values_push, has_value}
 use Rattle.valuations.proofs.arguments.arguments_in.Goals.{in-Some+in_ok-push_copy, in_default}
 use Rattle.valuations.proofs.arguments.arguments_in.Goals as goal

@@ -1,9 +1,7 @@
-use Rattle.valuations.proofs.Vocabulary.{◌≡◌, ◌+◌, [], None, Some, take, get_or, refl, sym, ap, subst}
-use Rattle.valuations.proofs.Vocabulary.{◌∙◌, take_all, option_copied, value_at, VarId, with_value, bound_in}
+use Rattle.valuations.proofs.Vocabulary.{◌≡◌, ◌+◌, [], None, Some, take, get_or, refl, sym, ap, subst, ◌∙◌, take_all, option_copied, value_at, VarId, with_value, bound_in}
 use Rattle.valuations.proofs.ScopeLaws.{part_is, IsPartOfValuation}
 use Rattle.valuations.proofs.FrameLemmas.{none_copied, some_copied, part_bound, part_kept, part_same, part_without}
-use Rattle.valuations.proofs.filling.part_in.Goals.{then-is_none+in-Some+in_ok-duplicate+in_ok-bind}
-use Rattle.valuations.proofs.filling.part_in.Goals.{then-is_none+in_default, else-is_none}
+use Rattle.valuations.proofs.filling.part_in.Goals.{then-is_none+in-Some+in_ok-duplicate+in_ok-bind, then-is_none+in_default, else-is_none}
 use Rattle.valuations.proofs.filling.part_in.Goals as goal
 
 pub loop-variable-init : goal.loop-variable-init

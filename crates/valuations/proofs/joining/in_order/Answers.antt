@@ -1,6 +1,5 @@
-use Rattle.valuations.proofs.Vocabulary.{rules, ◌≡◌, sym, ◌∙◌, subst, Contains, is_lt, always_returns_same}
-use Rattle.valuations.proofs.Vocabulary.{take_all, ranks_by, IsPermutation-map, IsPermutation-sym, Contains-permutation}
-use Rattle.valuations.proofs.Vocabulary.{row_key, key_cmp, shown_rows}
+use Rattle.valuations.proofs.Vocabulary.{rules, ◌≡◌, sym, ◌∙◌, subst, Contains, is_lt, always_returns_same, take_all, ranks_by, IsPermutation-map, IsPermutation-sym, Contains-permutation, row_key}
+use Rattle.valuations.proofs.Vocabulary.{key_cmp, shown_rows}
 use Rattle.valuations.proofs.KeyLaws.{key_cmp_total}
 use Rattle.valuations.proofs.joining.in_order.Goals as goal
 

@@ -1,7 +1,5 @@
-use Rattle.valuations.proofs.Vocabulary.{rules, ◌≡◌, true, false, ap, sym, ◌∙◌, subst, Contains, length}
-use Rattle.valuations.proofs.Vocabulary.{take, drop, ◌-◌, IsPartitionPoint, IsPartitionedBy, is_lt, is_le}
-use Rattle.valuations.proofs.Vocabulary.{take_rest, IsPartitionPoint-from_clause, row_key, key_cmp, shown_rows}
-use Rattle.valuations.proofs.Vocabulary.{below_first, up_to_last, tied_between, Contains-map, Contains-from_map}
+use Rattle.valuations.proofs.Vocabulary.{rules, ◌≡◌, true, false, ap, sym, ◌∙◌, subst, Contains, length, take, drop, ◌-◌, IsPartitionPoint, IsPartitionedBy, is_lt, is_le, take_rest}
+use Rattle.valuations.proofs.Vocabulary.{IsPartitionPoint-from_clause, row_key, key_cmp, shown_rows, below_first, up_to_last, tied_between, Contains-map, Contains-from_map}
 use Rattle.valuations.proofs.KeyLaws.{key_cmp_total, key_cmp_exact}
 use Rattle.valuations.proofs.joining.partners.Goals as goal
 

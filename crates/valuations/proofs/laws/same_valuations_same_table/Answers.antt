@@ -1,6 +1,4 @@
-use Rattle.valuations.proofs.Vocabulary.{◌≡◌, List, Contains, length, subst, ap, sym, ◌∙◌, same_rising}
-use Rattle.valuations.proofs.Vocabulary.{Valuation, valuation_of, VarId, Value, row_cmp_total, HasValuation, IsTable}
-use Rattle.valuations.proofs.Vocabulary.{Relation}
+use Rattle.valuations.proofs.Vocabulary.{◌≡◌, List, Contains, length, subst, ap, sym, ◌∙◌, same_rising, Valuation, valuation_of, VarId, Value, row_cmp_total, HasValuation, IsTable, Relation}
 use Rattle.valuations.proofs.RowLaws.{contains_from_valuation, contains_valuation, table_row-length}
 use Rattle.valuations.proofs.laws.same_valuations_same_table.Goals as goal
 

@@ -1,5 +1,4 @@
-use Rattle.windows.proofs.Vocabulary.{◌∙◌, ◌⊎◌, Contains, sym, false≢true, GivesRow, GivesSomeRow, cells}
-use Rattle.windows.proofs.Vocabulary.{SurvivesUnder, AreTables}
+use Rattle.windows.proofs.Vocabulary.{◌∙◌, ◌⊎◌, Contains, sym, false≢true, GivesRow, GivesSomeRow, cells, SurvivesUnder, AreTables}
 use Rattle.windows.proofs.EntryLemmas.{given_more, gives_all, gives_more, gives_no_more}
 use Rattle.windows.proofs.bound_answers.push_given_under.Goals as goal
 

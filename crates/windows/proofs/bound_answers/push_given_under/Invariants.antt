@@ -1,5 +1,4 @@
-use Rattle.windows.proofs.Vocabulary.{◌↔◌, ◌⊎◌, List, Contains, Value, GivesRow, GivesSomeRow, cells}
-use Rattle.windows.proofs.Vocabulary.{SurvivesUnder, AreTables}
+use Rattle.windows.proofs.Vocabulary.{◌↔◌, ◌⊎◌, List, Contains, Value, GivesRow, GivesSomeRow, cells, SurvivesUnder, AreTables}
 use Rattle.windows.proofs.bound_answers.push_given_under.Given as goal
 
 abbrev pub invariant-loop-row : goal.invariant-loop-row

@@ -1,10 +1,7 @@
-use Rattle.windows.proofs.Vocabulary.{◌∙◌, ◌↔◌, ◌⊎◌, ◌<◌, ◌≤◌, ◌++◌, ◌∷◌, []}
-use Rattle.windows.proofs.Vocabulary.{IsTrue, List, length, take, get_or, Contains, sym, ap, subst, false≢true}
-use Rattle.windows.proofs.Vocabulary.{take_all, Value, are_cells_as_bound, cells}
+use Rattle.windows.proofs.Vocabulary.{◌∙◌, ◌↔◌, ◌⊎◌, ◌<◌, ◌≤◌, ◌++◌, ◌∷◌, [], IsTrue, List, length, take, get_or, Contains, sym, ap, subst, false≢true, take_all, Value, are_cells_as_bound, cells}
 use Rattle.windows.proofs.EntryLemmas.{next_of}
 use Rattle.windows.proofs.BoundAnswerLemmas.{grows_by, grows_not}
-use Rattle.windows.proofs.bound_answers.push_rows_under.Goals.{then-are_as_bound+in_ok-duplicate+in_ok-push}
-use Rattle.windows.proofs.bound_answers.push_rows_under.Goals.{else-are_as_bound}
+use Rattle.windows.proofs.bound_answers.push_rows_under.Goals.{then-are_as_bound+in_ok-duplicate+in_ok-push, else-are_as_bound}
 use Rattle.windows.proofs.bound_answers.push_rows_under.Goals as goal
 
 pub loop-row-preserved : goal.loop-row-preserved

@@ -1,5 +1,4 @@
-use Rattle.windows.proofs.Vocabulary.{◌↔◌, ◌⊎◌, IsTrue, List, take, Contains, Value, are_cells_as_bound}
-use Rattle.windows.proofs.Vocabulary.{cells}
+use Rattle.windows.proofs.Vocabulary.{◌↔◌, ◌⊎◌, IsTrue, List, take, Contains, Value, are_cells_as_bound, cells}
 use Rattle.windows.proofs.bound_answers.push_rows_under.Given as goal
 
 abbrev pub invariant-loop-row : goal.invariant-loop-row

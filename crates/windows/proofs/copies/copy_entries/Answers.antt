@@ -1,5 +1,6 @@
 use Rattle.windows.proofs.Vocabulary.{◌≡◌, ◌∙◌, ◌++◌, length, refl, sym, ap, subst, kept_entries}
-use Rattle.windows.proofs.CopyLemmas.{all_pushed, next_pushed, not_copied}
+use Rattle.windows.proofs.CopyLemmas.{not_copied}
+use Rattle.windows.proofs.ListSteps.{all_pushed, next_pushed}
 use Rattle.windows.proofs.copies.copy_entries.Goals as goal
 
 pub loop-row-init : goal.loop-row-init
@@ -15,7 +16,7 @@ pub loop-row-preserved : goal.loop-row-preserved
 loop-row-preserved c =
     next_pushed (kept_entries c.loop-row.copy.entries) (kept_entries c.loop-row.row-iterator) (kept_entries c.next.new.self) (kept_entries c.copy_entry.new.copy.entries)
     (kept_entries c.args.entries.now.entries)
-    (c.in-Some.row.now, c.in-Some.times.now.items) (c.in-Some.row.now, c.in-Some.times.now.items) c.loop-row.invariant (ap kept_entries c.in-Some.ensures.steps) refl c.in_ok-copy_entry.ensures
+    (c.in-Some.row.now, c.in-Some.times.now) (c.in-Some.row.now, c.in-Some.times.now) c.loop-row.invariant (ap kept_entries c.in-Some.ensures.steps) refl c.in_ok-copy_entry.ensures
 
 pub returns : goal.returns
 returns c =

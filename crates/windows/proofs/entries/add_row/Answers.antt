@@ -1,69 +1,68 @@
-use Rattle.windows.proofs.Vocabulary.{◌∙◌, [], ◌∷◌, ◌++◌, refl, sym, ap, on_ok_weaker}
-use Rattle.windows.proofs.EntryLemmas.{first_at_most, fit_of, grown_by, kept_first, kept_set, least_first, least_of}
-use Rattle.windows.proofs.EntryLemmas.{least_set, missing, row_added, row_at_most, row_first, sets_at, unique_from}
+use Rattle.windows.proofs.Vocabulary.{◌∙◌, refl, sym, on_ok_weaker}
+use Rattle.windows.proofs.EntryLemmas.{first_at_most, fit_of, grown_by, kept_first, kept_set, least_first, least_of, least_set, missing, row_added, row_at_most, row_first, sets_at, unique_from}
 use Rattle.windows.proofs.TimeLemmas.{some_least}
 use Rattle.windows.proofs.entries.add_row.Goals as goal
 
-pub add_time-requires-clause-rise : goal.add_time-requires-clause-rise
-add_time-requires-clause-rise c =
+pub add-requires-clause-rise : goal.add-requires-clause-rise
+add-requires-clause-rise c =
     let sets = sets_at c.args.row.now c.args.entries.now.entries c.in-Some.place c.index_mut.result.now c.index_mut.result.now (sym c.in-Some.is ∙ c.get_index_of.ensures.index)
     c.index_mut.ensures.value in
     (fit_of _ _ c.args.entries.now.entries c.args.row.now c.index_mut.result.now c.requires.kept sets.was).1
 
-pub add_time-requires-clause-least : goal.add_time-requires-clause-least
-add_time-requires-clause-least c =
+pub add-requires-clause-least : goal.add-requires-clause-least
+add-requires-clause-least c =
     let sets = sets_at c.args.row.now c.args.entries.now.entries c.in-Some.place c.index_mut.result.now c.index_mut.result.now (sym c.in-Some.is ∙ c.get_index_of.ensures.index)
     c.index_mut.ensures.value in
     least_of c.args.interval c.args.now c.args.entries.now.entries c.args.row.now c.index_mut.result.now c.requires.least sets.was
 
 pub returns-in-Some-clause-among : goal.returns-in-Some-clause-among
 returns-in-Some-clause-among c =
-    row_at_most c.args.interval c.args.now c.args.row.now c.args.entries.now.entries _ c.index_mut.result.now c.add_time.new.times
-    (sets_at c.args.row.now c.args.entries.now.entries c.in-Some.place c.index_mut.result.now c.add_time.new.times (sym c.in-Some.is ∙ c.get_index_of.ensures.index)
-    c.index_mut.ensures.value) c.add_time.ensures.among
+    row_at_most c.args.interval c.args.now c.args.row.now c.args.entries.now.entries _ c.index_mut.result.now c.add.new.self
+    (sets_at c.args.row.now c.args.entries.now.entries c.in-Some.place c.index_mut.result.now c.add.new.self (sym c.in-Some.is ∙ c.get_index_of.ensures.index)
+    c.index_mut.ensures.value) c.add.ensures.among
 
 pub returns-in-Some-clause-added : goal.returns-in-Some-clause-added
 returns-in-Some-clause-added c =
-    on_ok_weaker c.add_time.result (row_added c.args.interval c.args.now c.args.row.now c.args.entries.now.entries _ c.index_mut.result.now c.add_time.new.times
-    (sets_at c.args.row.now c.args.entries.now.entries c.in-Some.place c.index_mut.result.now c.add_time.new.times (sym c.in-Some.is ∙ c.get_index_of.ensures.index)
-    c.index_mut.ensures.value)) c.add_time.ensures.added
+    on_ok_weaker c.add.result (row_added c.args.interval c.args.now c.args.row.now c.args.entries.now.entries _ c.index_mut.result.now c.add.new.self
+    (sets_at c.args.row.now c.args.entries.now.entries c.in-Some.place c.index_mut.result.now c.add.new.self (sym c.in-Some.is ∙ c.get_index_of.ensures.index)
+    c.index_mut.ensures.value)) c.add.ensures.added
 
 pub returns-in-Some-clause-kept : goal.returns-in-Some-clause-kept
 returns-in-Some-clause-kept c =
-    kept_set _ c.args.now c.args.row.now c.args.entries.now.entries c.in-Some.place c.index_mut.result.now c.add_time.new.times c.requires.kept
-    (sets_at c.args.row.now c.args.entries.now.entries c.in-Some.place c.index_mut.result.now c.add_time.new.times (sym c.in-Some.is ∙ c.get_index_of.ensures.index) c.index_mut.ensures.value)
-    c.add_time.ensures.rise (some_least c.args.interval.high c.args.interval.low c.args.now c.add_time.new.times.items c.add_time.ensures.least)
+    kept_set _ c.args.now c.args.row.now c.args.entries.now.entries c.in-Some.place c.index_mut.result.now c.add.new.self c.requires.kept
+    (sets_at c.args.row.now c.args.entries.now.entries c.in-Some.place c.index_mut.result.now c.add.new.self (sym c.in-Some.is ∙ c.get_index_of.ensures.index) c.index_mut.ensures.value)
+    c.add.ensures.rise (some_least c.args.interval.high c.args.interval.low c.args.now c.add.new.self c.add.ensures.least)
 
 pub returns-in-Some-clause-least : goal.returns-in-Some-clause-least
 returns-in-Some-clause-least c =
-    least_set c.args.interval c.args.now c.args.row.now c.args.entries.now.entries _ c.index_mut.result.now c.add_time.new.times c.requires.least
-    (sets_at c.args.row.now c.args.entries.now.entries c.in-Some.place c.index_mut.result.now c.add_time.new.times (sym c.in-Some.is ∙ c.get_index_of.ensures.index)
-    c.index_mut.ensures.value) c.add_time.ensures.least
+    least_set c.args.interval c.args.now c.args.row.now c.args.entries.now.entries _ c.index_mut.result.now c.add.new.self c.requires.least
+    (sets_at c.args.row.now c.args.entries.now.entries c.in-Some.place c.index_mut.result.now c.add.new.self (sym c.in-Some.is ∙ c.get_index_of.ensures.index)
+    c.index_mut.ensures.value) c.add.ensures.least
 
 pub returns-clause-among : goal.returns-clause-among
 returns-clause-among c =
-    first_at_most c.args.interval c.args.now c.args.row.now c.args.entries.now.entries c.insert.new.self.entries c.push.new.self
-    (grown_by c.args.entries.now c.args.row.now c.in_ok-duplicate.field-0 c.push.new.self c.insert.new.self.entries (missing _ _ c.in_default.not-Some c.get_index_of.ensures.found)
+    first_at_most c.args.interval c.args.now c.args.row.now c.args.entries.now.entries c.insert.new.self.entries c.one.result
+    (grown_by c.args.entries.now c.args.row.now c.in_ok-duplicate.field-0 c.one.result c.insert.new.self.entries (missing _ _ c.in_default.not-Some c.get_index_of.ensures.found)
     c.in_ok-duplicate.ensures c.in_ok-insert.ensures.entries)
-    (c.in_ok-push.ensures.ok ∙ ap (λ l. l ++ c.args.now ∷ []) c.new-times.ensures.items)
+    c.one.ensures
 
 pub returns-clause-added : goal.returns-clause-added
 returns-clause-added c =
-    row_first c.args.interval c.args.now c.args.row.now c.args.entries.now.entries c.insert.new.self.entries c.push.new.self
-    (grown_by c.args.entries.now c.args.row.now c.in_ok-duplicate.field-0 c.push.new.self c.insert.new.self.entries (missing _ _ c.in_default.not-Some c.get_index_of.ensures.found)
+    row_first c.args.interval c.args.now c.args.row.now c.args.entries.now.entries c.insert.new.self.entries c.one.result
+    (grown_by c.args.entries.now c.args.row.now c.in_ok-duplicate.field-0 c.one.result c.insert.new.self.entries (missing _ _ c.in_default.not-Some c.get_index_of.ensures.found)
     c.in_ok-duplicate.ensures c.in_ok-insert.ensures.entries)
-    (c.in_ok-push.ensures.ok ∙ ap (λ l. l ++ c.args.now ∷ []) c.new-times.ensures.items)
+    c.one.ensures
 
 pub returns-clause-kept : goal.returns-clause-kept
 returns-clause-kept c =
-    kept_first _ c.args.now c.args.row.now c.args.entries.now.entries c.insert.new.self.entries c.push.new.self c.requires.kept refl
-    (grown_by c.args.entries.now c.args.row.now c.in_ok-duplicate.field-0 c.push.new.self c.insert.new.self.entries (missing _ _ c.in_default.not-Some c.get_index_of.ensures.found)
+    kept_first _ c.args.now c.args.row.now c.args.entries.now.entries c.insert.new.self.entries c.one.result c.requires.kept refl
+    (grown_by c.args.entries.now c.args.row.now c.in_ok-duplicate.field-0 c.one.result c.insert.new.self.entries (missing _ _ c.in_default.not-Some c.get_index_of.ensures.found)
     c.in_ok-duplicate.ensures c.in_ok-insert.ensures.entries)
-    (c.in_ok-push.ensures.ok ∙ ap (λ l. l ++ c.args.now ∷ []) c.new-times.ensures.items) (unique_from c.insert.new.self.entries c.insert.ensures.unique)
+    c.one.ensures (unique_from c.insert.new.self.entries c.insert.ensures.unique)
 
 pub returns-clause-least : goal.returns-clause-least
 returns-clause-least c =
-    least_first c.args.interval c.args.now c.args.row.now c.args.entries.now.entries c.insert.new.self.entries c.push.new.self c.requires.least
-    (grown_by c.args.entries.now c.args.row.now c.in_ok-duplicate.field-0 c.push.new.self c.insert.new.self.entries (missing _ _ c.in_default.not-Some c.get_index_of.ensures.found)
+    least_first c.args.interval c.args.now c.args.row.now c.args.entries.now.entries c.insert.new.self.entries c.one.result c.requires.least
+    (grown_by c.args.entries.now c.args.row.now c.in_ok-duplicate.field-0 c.one.result c.insert.new.self.entries (missing _ _ c.in_default.not-Some c.get_index_of.ensures.found)
     c.in_ok-duplicate.ensures c.in_ok-insert.ensures.entries)
-    (c.in_ok-push.ensures.ok ∙ ap (λ l. l ++ c.args.now ∷ []) c.new-times.ensures.items)
+    c.one.ensures

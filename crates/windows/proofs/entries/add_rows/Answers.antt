@@ -1,5 +1,4 @@
-use Rattle.windows.proofs.Vocabulary.{◌∙◌, ◌<◌, length, take, get_or, ap, subst, Contains, AddsTimes}
-use Rattle.windows.proofs.Vocabulary.{AreWindowEntries, table_row-length}
+use Rattle.windows.proofs.Vocabulary.{◌∙◌, ◌<◌, length, take, get_or, ap, subst, Contains, AddsTimes, AreWindowEntries, table_row-length}
 use Rattle.windows.proofs.EntryLemmas.{adds_then, at_most_then, item_there, next_of}
 use Rattle.windows.proofs.entries.add_rows.Goals as goal
 

@@ -1,5 +1,4 @@
-use Rattle.windows.proofs.Vocabulary.{◌∙◌, ◌<◌, ◌≤◌, length, take, get_or, ap, subst, Contains}
-use Rattle.windows.proofs.Vocabulary.{take_all, KeepsRows}
+use Rattle.windows.proofs.Vocabulary.{◌∙◌, ◌<◌, ◌≤◌, length, take, get_or, ap, subst, Contains, take_all, KeepsRows}
 use Rattle.windows.proofs.EntryLemmas.{keeps_all, keeps_then, next_of}
 use Rattle.windows.proofs.entries.forget_rows.Goals as goal
 

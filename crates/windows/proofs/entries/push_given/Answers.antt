@@ -1,5 +1,4 @@
-use Rattle.windows.proofs.Vocabulary.{◌∙◌, ◌⊎◌, Contains, sym, false≢true, GivesRow, GivesSomeRow}
-use Rattle.windows.proofs.Vocabulary.{RowSurvives, AreTables}
+use Rattle.windows.proofs.Vocabulary.{◌∙◌, ◌⊎◌, Contains, sym, false≢true, GivesRow, GivesSomeRow, RowSurvives, AreTables}
 use Rattle.windows.proofs.EntryLemmas.{given_more, gives_all, gives_more, gives_no_more}
 use Rattle.windows.proofs.entries.push_given.Goals as goal
 

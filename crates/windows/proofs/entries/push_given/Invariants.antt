@@ -1,5 +1,4 @@
-use Rattle.windows.proofs.Vocabulary.{◌↔◌, ◌⊎◌, List, Contains, Value, GivesRow, GivesSomeRow, RowSurvives}
-use Rattle.windows.proofs.Vocabulary.{AreTables}
+use Rattle.windows.proofs.Vocabulary.{◌↔◌, ◌⊎◌, List, Contains, Value, GivesRow, GivesSomeRow, RowSurvives, AreTables}
 use Rattle.windows.proofs.entries.push_given.Given as goal
 
 abbrev pub invariant-loop-row : goal.invariant-loop-row

@@ -1,5 +1,4 @@
-use Rattle.windows.proofs.Vocabulary.{◌∙◌, ◌↔◌, ◌⊎◌, ◌<◌, ◌≤◌, List, length, take, get_or}
-use Rattle.windows.proofs.Vocabulary.{Contains, ap, subst, take_all, Value}
+use Rattle.windows.proofs.Vocabulary.{◌∙◌, ◌↔◌, ◌⊎◌, ◌<◌, ◌≤◌, List, length, take, get_or, Contains, ap, subst, take_all, Value}
 use Rattle.windows.proofs.EntryLemmas.{grows, next_of}
 use Rattle.windows.proofs.entries.push_rows.Goals as goal
 

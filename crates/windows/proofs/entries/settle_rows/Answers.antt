@@ -1,6 +1,5 @@
-use Rattle.windows.proofs.Vocabulary.{◌∙◌, ⊎_elim, ◌<◌, ◌≤◌, [], ◌∷◌, List, length, take}
-use Rattle.windows.proofs.Vocabulary.{get_or, ap, subst, Contains, take_all, Contains-append_cases, Value}
-use Rattle.windows.proofs.Vocabulary.{first_or_later, none_in_nil, IsSettledRow}
+use Rattle.windows.proofs.Vocabulary.{◌∙◌, ⊎_elim, ◌<◌, ◌≤◌, [], ◌∷◌, List, length, take, get_or, ap, subst, Contains, take_all, Contains-append_cases, Value, first_or_later, none_in_nil}
+use Rattle.windows.proofs.Vocabulary.{IsSettledRow}
 use Rattle.windows.proofs.EntryLemmas.{forgets_then, next_of, settled_then}
 use Rattle.windows.proofs.entries.settle_rows.Goals as goal
 

@@ -1,5 +1,4 @@
-use Rattle.windows.proofs.Vocabulary.{⊎_elim, ◌-◌, ◌≤◌, Some, arith, All-contains, IsSettledRow, IsInStep}
-use Rattle.windows.proofs.Vocabulary.{IsEndedTime}
+use Rattle.windows.proofs.Vocabulary.{⊎_elim, ◌-◌, ◌≤◌, Some, arith, All-contains, IsSettledRow, IsInStep, IsEndedTime}
 use Rattle.windows.proofs.EntryLemmas.{forgets_then, settled_then}
 use Rattle.windows.proofs.QueueLemmas.{first_done, goes_first}
 use Rattle.windows.proofs.expiry.forget_ended.Goals as goal

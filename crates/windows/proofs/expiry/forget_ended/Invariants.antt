@@ -1,5 +1,4 @@
-use Rattle.windows.proofs.Vocabulary.{◌⊎◌, ℕ, List, Some, length, Value, AreWindowEntries, Forgets}
-use Rattle.windows.proofs.Vocabulary.{IsSettledRow, IsInStep, LetsGo, IsEndedTime}
+use Rattle.windows.proofs.Vocabulary.{◌⊎◌, ℕ, List, Some, length, Value, AreWindowEntries, Forgets, IsSettledRow, IsInStep, LetsGo, IsEndedTime}
 use Rattle.windows.proofs.expiry.forget_ended.Given as goal
 
 abbrev pub invariant-loop-step : goal.invariant-loop-step

@@ -1,5 +1,4 @@
-use Rattle.windows.proofs.Vocabulary.{⊎_elim, ◌∙◌, ◌∷◌, ◌-◌, ◌<◌, ◌≤◌, sym, ap, arith}
-use Rattle.windows.proofs.Vocabulary.{All-contains, IsSettledRow, IsInStep, waiting_of}
+use Rattle.windows.proofs.Vocabulary.{⊎_elim, ◌∙◌, ◌∷◌, ◌-◌, ◌<◌, ◌≤◌, sym, ap, arith, All-contains, IsSettledRow, IsInStep, waiting_of}
 use Rattle.windows.proofs.EntryLemmas.{forgets_then, settled_then}
 use Rattle.windows.proofs.QueueLemmas.{first_done, passes_first}
 use Rattle.windows.proofs.expiry.forget_far.Goals as goal

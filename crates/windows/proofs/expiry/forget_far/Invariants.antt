@@ -1,5 +1,4 @@
-use Rattle.windows.proofs.Vocabulary.{◌⊎◌, ◌≤◌, ◌-◌, ℕ, List, length, Value, AreWindowEntries}
-use Rattle.windows.proofs.Vocabulary.{Forgets, IsSettledRow, IsInStep, LetsGo, waiting_of}
+use Rattle.windows.proofs.Vocabulary.{◌⊎◌, ◌≤◌, ◌-◌, ℕ, List, length, Value, AreWindowEntries, Forgets, IsSettledRow, IsInStep, LetsGo, waiting_of}
 use Rattle.windows.proofs.expiry.forget_far.Given as goal
 
 abbrev pub invariant-loop-step : goal.invariant-loop-step

@@ -1,7 +1,6 @@
 use Rattle.windows.proofs.Vocabulary.{arith}
 use Rattle.windows.proofs.EntryLemmas.{forgets_then}
-use Rattle.windows.proofs.ExpiryLemmas.{least1, least2, now_waits, now_waits2, queued1, queued2, still_in_reach}
-use Rattle.windows.proofs.ExpiryLemmas.{still_up_to}
+use Rattle.windows.proofs.ExpiryLemmas.{least1, least2, now_waits, now_waits2, queued1, queued2, still_in_reach, still_up_to}
 use Rattle.windows.proofs.expiry.forget_steps.Goals as goal
 
 pub forget_far-requires-clause-kept : goal.forget_far-requires-clause-kept

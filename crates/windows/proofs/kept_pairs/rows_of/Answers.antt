@@ -1,5 +1,4 @@
-use Rattle.windows.proofs.Vocabulary.{◌≡◌, ◌∙◌, ◌↔◌, ◌++◌, [], ◌∷◌, List, length, All}
-use Rattle.windows.proofs.Vocabulary.{Contains, map, arith, ap, sym, subst, IfOk-weaker, Value, KeptPair}
+use Rattle.windows.proofs.Vocabulary.{◌≡◌, ◌∙◌, ◌↔◌, ◌++◌, [], ◌∷◌, List, length, All, Contains, map, arith, ap, sym, subst, IfOk-weaker, Value, KeptPair}
 use Rattle.std.proofs.lemmas.List.{append-nil}
 use Rattle.windows.proofs.RestoreLemmas.{rows_fit}
 use Rattle.windows.proofs.kept_pairs.rows_of.Goals as goal

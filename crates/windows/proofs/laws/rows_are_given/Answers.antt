@@ -1,7 +1,5 @@
-use Rattle.windows.proofs.Vocabulary.{sym, subst, refl, survives_always, survives_among, survives_outside}
-use Rattle.windows.proofs.Vocabulary.{AgreesWithRow, HasValuation}
-use Rattle.windows.proofs.GivenLaws.{among_has, given_answers, given_from, given_last_answers, given_last_from}
-use Rattle.windows.proofs.GivenLaws.{outside_has}
+use Rattle.windows.proofs.Vocabulary.{sym, subst, refl, survives_always, survives_among, survives_outside, AgreesWithRow, HasValuation}
+use Rattle.windows.proofs.GivenLaws.{among_has, given_answers, given_from, given_last_answers, given_last_from, outside_has}
 use Rattle.windows.proofs.laws.rows_are_given.Goals as goal
 
 pub returns-clause-all : goal.returns-clause-all

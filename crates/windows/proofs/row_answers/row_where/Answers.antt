@@ -1,5 +1,4 @@
-use Rattle.windows.proofs.Vocabulary.{◌≡◌, ◌∙◌, ◌⊎◌, ◌↔◌, ◌++◌, ◌∷◌, [], true, false}
-use Rattle.windows.proofs.Vocabulary.{inl, inr, IsTrue, ap, Valuation, ok_both, AgreesWithRow, HasValuation}
+use Rattle.windows.proofs.Vocabulary.{◌≡◌, ◌∙◌, ◌⊎◌, ◌↔◌, ◌++◌, ◌∷◌, [], true, false, inl, inr, IsTrue, ap, Valuation, ok_both, AgreesWithRow, HasValuation}
 use Rattle.windows.proofs.RowAnswerLemmas.{row_has}
 use Rattle.windows.proofs.row_answers.row_where.Goals.{then-is_there+in_ok-push, else-is_there}
 use Rattle.windows.proofs.row_answers.row_where.Goals as goal

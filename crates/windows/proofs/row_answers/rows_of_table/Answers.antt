@@ -1,5 +1,4 @@
-use Rattle.windows.proofs.Vocabulary.{◌≡◌, ◌∙◌, ◌↔◌, IsTrue, map, Some, subst, IfSome, IfOk-weaker}
-use Rattle.windows.proofs.Vocabulary.{Valuation, AgreesWithRow, AgreesWhereBound, HasValuation, cells}
+use Rattle.windows.proofs.Vocabulary.{◌≡◌, ◌∙◌, ◌↔◌, IsTrue, map, Some, subst, IfSome, IfOk-weaker, Valuation, AgreesWithRow, AgreesWhereBound, HasValuation, cells}
 use Rattle.windows.proofs.RowAnswerLemmas.{rows_of_table}
 use Rattle.windows.proofs.row_answers.rows_of_table.Goals as goal
 

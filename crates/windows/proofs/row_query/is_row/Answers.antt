@@ -1,5 +1,4 @@
-use Rattle.windows.proofs.Vocabulary.{◌<◌, length, map, Some, arith, length-map, option_copied, value_at, Value}
-use Rattle.windows.proofs.Vocabulary.{cells}
+use Rattle.windows.proofs.Vocabulary.{◌<◌, length, map, Some, arith, length-map, option_copied, value_at, Value, cells}
 use Rattle.std.specs.Prelude.{Option}
 use Rattle.windows.proofs.QueryLemmas.{alike, apart, cell_at, some_at}
 use Rattle.windows.proofs.row_query.is_row.Goals as goal

@@ -1,5 +1,4 @@
-use Rattle.windows.proofs.Vocabulary.{[], refl, not_from_Decides, case_within, case_from, right_at_0, again_at_2}
-use Rattle.windows.proofs.Vocabulary.{at_0_and_2, both_at_4, dies_at_once}
+use Rattle.windows.proofs.Vocabulary.{[], refl, not_from_Decides, case_within, case_from, right_at_0, again_at_2, at_0_and_2, both_at_4, dies_at_once}
 use Rattle.windows.proofs.CaseLemmas.{kept-Decides}
 use Rattle.windows.proofs.worked_cases.kept.Goals as goal
 

@@ -1,5 +1,4 @@
-use Rattle.windows.proofs.Vocabulary.{[], ◌∷◌, ◌≡◌, refl, arith, not_from_Decides, to_the_end}
-use Rattle.windows.proofs.Vocabulary.{agrees_itself, x_columns, entry, case_from, x_number, number_row, case_within}
+use Rattle.windows.proofs.Vocabulary.{[], ◌∷◌, ◌≡◌, refl, arith, not_from_Decides, to_the_end, agrees_itself, x_columns, entry, case_from, x_number, number_row, case_within}
 use Rattle.windows.proofs.CaseLemmas.{distinct, pair-Decides, remembered-Decides}
 use Rattle.windows.proofs.HeldLemmas.{none_held}
 use Rattle.windows.proofs.SmallWindow.{one_row_stands}

@@ -1,5 +1,4 @@
-use Rattle.windows.proofs.Vocabulary.{[], ◌∷◌, refl, not_from_Decides, case_within, case_from, entry, right_at_0}
-use Rattle.windows.proofs.Vocabulary.{again_at_2, at_0_and_2, both_at_4, right_now}
+use Rattle.windows.proofs.Vocabulary.{[], ◌∷◌, refl, not_from_Decides, case_within, case_from, entry, right_at_0, again_at_2, at_0_and_2, both_at_4, right_now}
 use Rattle.windows.proofs.CaseLemmas.{given-Decides}
 use Rattle.windows.proofs.worked_cases.windows.Goals as goal
 

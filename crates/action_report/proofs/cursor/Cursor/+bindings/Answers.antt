@@ -1,8 +1,6 @@
 -- The first binding, and then the others.
-use Rattle.action_report.proofs.Vocabulary.{◌≡◌, ◌++◌, ◌∷◌, ℕ, List, arith, codes, ap, subst, sym}
-use Rattle.action_report.proofs.Vocabulary.{◌∙◌, spelled, bindings, Value, bindings_text, IsRising}
-use Rattle.action_report.proofs.BindLemmas.{adds_join, binding_front, bound_join, ends_binding, first_bound, none_bound}
-use Rattle.action_report.proofs.BindLemmas.{one_more_bound, rising_on}
+use Rattle.action_report.proofs.Vocabulary.{◌≡◌, ◌++◌, ◌∷◌, ℕ, List, arith, codes, ap, subst, sym, ◌∙◌, spelled, bindings, Value, bindings_text, IsRising}
+use Rattle.action_report.proofs.BindLemmas.{adds_join, binding_front, bound_join, ends_binding, first_bound, none_bound, one_more_bound, rising_on}
 use Rattle.action_report.proofs.cursor.Cursor.+bindings.Goals as goal
 
 pub returns-then-not-variable-clause-again : goal.returns-then-not-variable-clause-again

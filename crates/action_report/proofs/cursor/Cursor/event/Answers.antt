@@ -1,6 +1,5 @@
 -- The name in front is that of the event, and its arguments follow.
-use Rattle.action_report.proofs.Vocabulary.{◌≡◌, ◌++◌, ◌∷◌, Some, slice_get, sym, ap, subst, ◌∙◌}
-use Rattle.action_report.proofs.Vocabulary.{spelled_row, FitColumns}
+use Rattle.action_report.proofs.Vocabulary.{◌≡◌, ◌++◌, ◌∷◌, Some, slice_get, sym, ap, subst, ◌∙◌, spelled_row, FitColumns}
 use Rattle.action_report.proofs.RowLemmas.{event_text, name_of, paren_ends_word, same_event}
 use Rattle.action_report.proofs.cursor.Cursor.event.Goals as goal
 

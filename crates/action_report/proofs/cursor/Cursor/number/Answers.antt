@@ -1,6 +1,5 @@
 -- The digits in front are those of the number, and `parse` gives it.
-use Rattle.action_report.proofs.Vocabulary.{ap, sym, subst, ◌∙◌, length, is_ascii_digit, take_while, result_ok}
-use Rattle.action_report.proofs.Vocabulary.{IsUtf8, parse-decimal, MatchResult-at_ok, behind_front, ok_some}
+use Rattle.action_report.proofs.Vocabulary.{ap, sym, subst, ◌∙◌, length, is_ascii_digit, take_while, result_ok, IsUtf8, parse-decimal, MatchResult-at_ok, behind_front, ok_some}
 use Rattle.action_report.proofs.ByteFronts.{err_utf8, number_front, number_utf8}
 use Rattle.action_report.proofs.cursor.Cursor.number.Goals as goal
 

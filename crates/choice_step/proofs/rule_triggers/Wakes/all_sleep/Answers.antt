@@ -1,5 +1,4 @@
-use Rattle.choice_step.proofs.Vocabulary.{List, Option, ap, map, subst, ◌∙◌, option_map, take_all, NameId}
-use Rattle.choice_step.proofs.Vocabulary.{AllSleep}
+use Rattle.choice_step.proofs.Vocabulary.{List, Option, ap, map, subst, ◌∙◌, option_map, take_all, NameId, AllSleep}
 use Rattle.choice_step.proofs.IdleStepLemmas.{sleep_more}
 use Rattle.choice_step.proofs.rule_triggers.Wakes.all_sleep.Goals as goal
 

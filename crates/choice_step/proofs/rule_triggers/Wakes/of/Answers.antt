@@ -1,5 +1,4 @@
-use Rattle.choice_step.proofs.Vocabulary.{◌≡◌, ◌∙◌, ℕ, List, None, Some, Contains, map, sym, subst, ap}
-use Rattle.choice_step.proofs.Vocabulary.{slice_get, option_map, NameId, AreAllIn, woken_by}
+use Rattle.choice_step.proofs.Vocabulary.{◌≡◌, ◌∙◌, ℕ, List, None, Some, Contains, map, sym, subst, ap, slice_get, option_map, NameId, AreAllIn, woken_by}
 use Rattle.choice_step.proofs.rule_triggers.Wakes.of.Goals as goal
 
 pub invariant_of-result : goal.invariant_of-result
@@ -14,4 +13,4 @@ invariant_of-result c =
     })
 
 pub returns : goal.returns
-returns c = ap (map (option_map (λ names. names.items))) c.from_vec.ensures ∙ c.in_ok-triggers.ensures
+returns c = ap (map (option_map (λ names. names.items))) c.from_vec.ensures ∙ c.in_ok-names.ensures

@@ -1,7 +1,6 @@
 -- A `&` to the nodes is made where one to an element is. Assumes `Logic`.
-use Rattle.cursor_list.proofs.Vocabulary.{[], ◌++◌, Incl-trans, meet_⊑_left, RattleType, Laws, copy_shared}
-use Rattle.cursor_list.proofs.Vocabulary.{RawPtr-field, usize-field, RawPtr-copy, usize-copy, of_Lends, Ghosts}
-use Rattle.cursor_list.proofs.Vocabulary.{links_of, chain_lent_laws, Lends-nodes}
+use Rattle.cursor_list.proofs.Vocabulary.{[], ◌++◌, Incl-trans, meet_⊑_left, RattleType, Laws, copy_shared, RawPtr-field, usize-field, RawPtr-copy, usize-copy, of_Lends, Ghosts, links_of}
+use Rattle.cursor_list.proofs.Vocabulary.{chain_lent_laws, Lends-nodes}
 use Rattle.cursor_list.proofs.nodes.Nodes.TheLaw.Statement.{statement}
 use Rattle.cursor_list.specs.contracts.nodes.Nodes as C
 

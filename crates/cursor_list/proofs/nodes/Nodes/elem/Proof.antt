@@ -1,17 +1,10 @@
 -- `elem` shows an element that the chain lends. Assumes `Logic`.
-use Rattle.cursor_list.proofs.Vocabulary.{◌≡◌, refl, sym, ap, subst, ◌∙◌, ℕ, ◌+◌, ◌<◌, ◌^◌}
-use Rattle.cursor_list.proofs.Vocabulary.{arith, List, [], ◌∷◌, ◌++◌, get_or, length-map, Ura, Fn, named, w64}
-use Rattle.cursor_list.proofs.Vocabulary.{inst_fn, Val, vint, vptr, SProp, ent, never, fst∗, Lft, Share, ftrue, flft}
-use Rattle.cursor_list.proofs.Vocabulary.{Env, Calls, Loops, WpFn, Tables, Logic, sem, fact, tables, WpFn-mono, Item}
-use Rattle.cursor_list.proofs.Vocabulary.{⋆, ‵, ◌⊛◌, at_ret, ◌$◌, ◌∵◌, !, qed, by, move, keep, use1}
-use Rattle.cursor_list.proofs.Vocabulary.{drop, split, join, fsplit, fsplit3, fjoin, feq_i, feq_l, suffices, done}
-use Rattle.cursor_list.proofs.Vocabulary.{whole, sub, stop, fld, of_opd, addr, first, blocks, exec, returns, enter}
-use Rattle.cursor_list.proofs.Vocabulary.{alloc_all, pass_all, free_all, look_at, get, get_in, through, sets, sets_last}
-use Rattle.cursor_list.proofs.Vocabulary.{is, env, yes, no, owns, shared_of, hidden_shr, ptr_val, in_a_block}
-use Rattle.cursor_list.proofs.Vocabulary.{◌+ₚ◌, Bor, ShrRef, RefOf, usize, plain, nothing, hide, spared, Clauses}
-use Rattle.cursor_list.proofs.Vocabulary.{Ended, closing, on_entry, Meets, triple_of, entered, run_framed, says, needs}
-use Rattle.cursor_list.proofs.Vocabulary.{Stays, stay_dropped, walk_of, ends_at, Goes-dropped, walk_Meets, after, word}
-use Rattle.cursor_list.proofs.Vocabulary.{word-Good, any-default, lent_at, Place, Link, links_of, place_of, elem_offset}
+use Rattle.cursor_list.proofs.Vocabulary.{◌≡◌, refl, sym, ap, subst, ◌∙◌, ℕ, ◌+◌, ◌<◌, ◌^◌, arith, List, [], ◌∷◌, ◌++◌, get_or, length-map, Ura, Fn, named, w64, inst_fn, Val, vint, vptr, SProp, ent}
+use Rattle.cursor_list.proofs.Vocabulary.{never, fst∗, Lft, Share, ftrue, flft, Env, Calls, Loops, WpFn, Tables, Logic, sem, fact, tables, WpFn-mono, Item, ⋆, ‵, ◌⊛◌, at_ret, ◌$◌, ◌∵◌, !, qed, by}
+use Rattle.cursor_list.proofs.Vocabulary.{move, keep, use1, drop, split, join, fsplit, fsplit3, fjoin, feq_i, feq_l, suffices, done, whole, sub, stop, fld, of_opd, addr, first, blocks, exec, returns}
+use Rattle.cursor_list.proofs.Vocabulary.{enter, alloc_all, pass_all, free_all, look_at, get, get_in, through, sets, sets_last, is, env, yes, no, owns, shared_of, hidden_shr, ptr_val, in_a_block}
+use Rattle.cursor_list.proofs.Vocabulary.{◌+ₚ◌, Bor, ShrRef, RefOf, usize, plain, nothing, hide, spared, Clauses, Ended, closing, on_entry, Meets, triple_of, entered, run_framed, says, needs, Stays}
+use Rattle.cursor_list.proofs.Vocabulary.{stay_dropped, walk_of, ends_at, Goes-dropped, walk_Meets, after, word, word-Good, any-default, lent_at, Place, Link, links_of, place_of, elem_offset}
 use Rattle.cursor_list.proofs.Vocabulary.{word_had, link_at, place_of-is, uncons, Bx, args, X, R, elem_at}
 use contract.Running.{tables_of}
 use Rattle.cursor_list.specs.contracts.nodes.Nodes.elem.Key.{name as #self}

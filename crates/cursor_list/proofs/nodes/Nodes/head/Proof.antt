@@ -1,16 +1,10 @@
 -- `head` reads through a `&`. Assumes `Logic`.
-use Rattle.cursor_list.proofs.Vocabulary.{◌≡◌, refl, sym, subst, ◌∙◌, ℕ, ◌+◌, ◌<◌, arith, List}
-use Rattle.cursor_list.proofs.Vocabulary.{[], ◌∷◌, ◌++◌, length-map, Ura, Fn, named, inst_fn, Val, vptr}
-use Rattle.cursor_list.proofs.Vocabulary.{SProp, ent, emp, via, fst∗, Lft, Share, ftrue, flft, Calls, Loops, WpFn}
-use Rattle.cursor_list.proofs.Vocabulary.{Tables, Logic, fact, tables, WpFn-mono, Item, ⋆, ‵, ◌⊛◌, ◌$◌}
-use Rattle.cursor_list.proofs.Vocabulary.{◌∵◌, !, qed, by, move, keep, split, join, fsplit, fjoin, feq_l}
-use Rattle.cursor_list.proofs.Vocabulary.{suffices, done, agg, look, stop, fld, load, of_opd, and_then, no_more}
-use Rattle.cursor_list.proofs.Vocabulary.{returns, enter, alloc_all, pass_all, free_all, look_at, get, through, sets}
-use Rattle.cursor_list.proofs.Vocabulary.{yes, owns, hidden_shr, Bor, ShrRef, RefOf, plain, nothing, spared, Clauses}
-use Rattle.cursor_list.proofs.Vocabulary.{Ended, closing, on_entry, Meets, triple_of, entered, run_framed, says, Stays}
-use Rattle.cursor_list.proofs.Vocabulary.{stay_dropped, walk_of, ends_at, Goes-dropped, walk_Meets, Ptr-Good, word}
-use Rattle.cursor_list.proofs.Vocabulary.{word-Good, links_of, place_of, word_made, IsChained-had, place_of-is, head_is}
-use Rattle.cursor_list.proofs.Vocabulary.{Bx, args, pointer_in, pointer_out}
+use Rattle.cursor_list.proofs.Vocabulary.{◌≡◌, refl, sym, subst, ◌∙◌, ℕ, ◌+◌, ◌<◌, arith, List, [], ◌∷◌, ◌++◌, length-map, Ura, Fn, named, inst_fn, Val, vptr, SProp, ent, emp, via, fst∗, Lft, Share}
+use Rattle.cursor_list.proofs.Vocabulary.{ftrue, flft, Calls, Loops, WpFn, Tables, Logic, fact, tables, WpFn-mono, Item, ⋆, ‵, ◌⊛◌, ◌$◌, ◌∵◌, !, qed, by, move, keep, split, join, fsplit, fjoin, feq_l}
+use Rattle.cursor_list.proofs.Vocabulary.{suffices, done, agg, look, stop, fld, load, of_opd, and_then, no_more, returns, enter, alloc_all, pass_all, free_all, look_at, get, through, sets, yes, owns}
+use Rattle.cursor_list.proofs.Vocabulary.{hidden_shr, Bor, ShrRef, RefOf, plain, nothing, spared, Clauses, Ended, closing, on_entry, Meets, triple_of, entered, run_framed, says, Stays, stay_dropped}
+use Rattle.cursor_list.proofs.Vocabulary.{walk_of, ends_at, Goes-dropped, walk_Meets, Ptr-Good, word, word-Good, links_of, place_of, word_made, IsChained-had, place_of-is, head_is, Bx, args}
+use Rattle.cursor_list.proofs.Vocabulary.{pointer_in, pointer_out}
 use contract.Running.{tables_of}
 use Rattle.cursor_list.specs.contracts.nodes.Nodes.head.Key.{name as #self}
 use Rattle.cursor_list.proofs.Memory.{D, Nr, nodes_seen}

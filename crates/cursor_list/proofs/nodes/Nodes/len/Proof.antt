@@ -1,13 +1,8 @@
 -- `len` reads through a `&`. Assumes `Logic`.
-use Rattle.cursor_list.proofs.Vocabulary.{◌≡◌, refl, sym, subst, ℕ, ◌+◌, ◌<◌, ◌^◌, arith, List, []}
-use Rattle.cursor_list.proofs.Vocabulary.{◌∷◌, ◌++◌, Ura, Fn, named, w64, inst_fn, Val, vint, vptr, SProp}
-use Rattle.cursor_list.proofs.Vocabulary.{ent, emp, via, fst∗, Lft, Share, ftrue, flft, Calls, Loops, WpFn, Tables}
-use Rattle.cursor_list.proofs.Vocabulary.{Logic, fact, tables, WpFn-mono, Item, ⋆, ‵, ◌⊛◌, ◌$◌, ◌∵◌}
-use Rattle.cursor_list.proofs.Vocabulary.{ !, qed, by, move, keep, split, join, fsplit, fjoin, feq_i, feq_l, flt_i}
-use Rattle.cursor_list.proofs.Vocabulary.{suffices, done, look, stop, fld, load, of_opd, returns, enter, alloc_all}
-use Rattle.cursor_list.proofs.Vocabulary.{pass_all, free_all, look_at, through, sets, yes, owns, hidden_shr, Bor}
-use Rattle.cursor_list.proofs.Vocabulary.{ShrRef, RefOf, usize, plain, nothing, spared, Clauses, Ended, closing}
-use Rattle.cursor_list.proofs.Vocabulary.{on_entry, Meets, triple_of, entered, run_framed, says, Stays, stay_dropped}
+use Rattle.cursor_list.proofs.Vocabulary.{◌≡◌, refl, sym, subst, ℕ, ◌+◌, ◌<◌, ◌^◌, arith, List, [], ◌∷◌, ◌++◌, Ura, Fn, named, w64, inst_fn, Val, vint, vptr, SProp, ent, emp, via, fst∗, Lft, Share}
+use Rattle.cursor_list.proofs.Vocabulary.{ftrue, flft, Calls, Loops, WpFn, Tables, Logic, fact, tables, WpFn-mono, Item, ⋆, ‵, ◌⊛◌, ◌$◌, ◌∵◌, !, qed, by, move, keep, split, join, fsplit, fjoin, feq_i}
+use Rattle.cursor_list.proofs.Vocabulary.{feq_l, flt_i, suffices, done, look, stop, fld, load, of_opd, returns, enter, alloc_all, pass_all, free_all, look_at, through, sets, yes, owns, hidden_shr}
+use Rattle.cursor_list.proofs.Vocabulary.{Bor, ShrRef, RefOf, usize, plain, nothing, spared, Clauses, Ended, closing, on_entry, Meets, triple_of, entered, run_framed, says, Stays, stay_dropped}
 use Rattle.cursor_list.proofs.Vocabulary.{walk_of, ends_at, Goes-dropped, walk_Meets, Bx, args, number_in, number_out}
 use contract.Running.{tables_of}
 use Rattle.cursor_list.specs.contracts.nodes.Nodes.len.Key.{name as #self}

@@ -1,23 +1,13 @@
 -- `link_back` fills the block, and the last node points on to it. Assumes `Logic`.
-use Rattle.cursor_list.proofs.Vocabulary.{◌≡◌, refl, sym, ap, subst, ◌∙◌, ℕ, ◌+◌, ◌<◌, ◌^◌}
-use Rattle.cursor_list.proofs.Vocabulary.{arith, List, [], ◌∷◌, ◌++◌, append_assoc, map-append, length}
-use Rattle.cursor_list.proofs.Vocabulary.{length-append, Ura, Fn, named, ty_ptr, inst_fn, Val, vptr, vunit, SProp, ent}
-use Rattle.cursor_list.proofs.Vocabulary.{sep, Lft, GName, Share, ftrue, froom, flft, fobs, fbor, Env, Calls, Loops}
-use Rattle.cursor_list.proofs.Vocabulary.{WpFn, Tables, Logic, fact, tables, WpFn-mono, Item, ⋆, ‵, ◌⊛◌}
-use Rattle.cursor_list.proofs.Vocabulary.{at_ret, ◌$◌, ◌∵◌, !, qed, by, move, keep, use1, use2, split, join}
-use Rattle.cursor_list.proofs.Vocabulary.{group, rewrite, fsplit, fsplit3, fjoin, fjoin3, feq_i, feq_l, suffices, frame}
-use Rattle.cursor_list.proofs.Vocabulary.{done, whole, sub, agg, look_in, store_in, store, init, stop, fld, load, lit}
-use Rattle.cursor_list.proofs.Vocabulary.{unit_lit, of_opd, bin, and_then, no_more, assigns, assigns_last, first}
-use Rattle.cursor_list.proofs.Vocabulary.{blocks, exec, returns, enter, alloc_all, pass_all, free_all, look_at, get}
-use Rattle.cursor_list.proofs.Vocabulary.{get_in, through, sets, is, env, Body as Borrowed, yes, no, RattleType, owns}
-use Rattle.cursor_list.proofs.Vocabulary.{mem, lone, Ptr, block_ptr, ptr_val, MutBor, MutRef, RefMutOf, unit, plain}
-use Rattle.cursor_list.proofs.Vocabulary.{nothing, spared, Clauses, Ended, closing, on_entry, Meets, triple_of, entered}
-use Rattle.cursor_list.proofs.Vocabulary.{run_framed, needs, Stays, stay_dropped, stay_ref, walk_of, ends_at}
-use Rattle.cursor_list.proofs.Vocabulary.{Goes-dropped, Goes-ref, walk_Meets, after, Good, Ptr-Good, as_fields, α}
-use Rattle.cursor_list.proofs.Vocabulary.{token, Fits, Goes-blank, as_written, Bx, args, X, τ, own, R, P, el_tells}
-use Rattle.cursor_list.proofs.Vocabulary.{Vacant, vacant_val, vacant_typed, Vacant-had, Link, links_of, IsChained}
-use Rattle.cursor_list.proofs.Vocabulary.{IsChained-had, IsChained-init, IsChained-join, unsnoc, node_val, Hd, block_ty}
-use Rattle.cursor_list.proofs.Vocabulary.{Held, One, snoc_out, snoc_in, one_opens, one_closes, node_made, KeepsPlaces}
+use Rattle.cursor_list.proofs.Vocabulary.{◌≡◌, refl, sym, ap, subst, ◌∙◌, ℕ, ◌+◌, ◌<◌, ◌^◌, arith, List, [], ◌∷◌, ◌++◌, append_assoc, map-append, length, length-append, Ura, Fn, named, ty_ptr}
+use Rattle.cursor_list.proofs.Vocabulary.{inst_fn, Val, vptr, vunit, SProp, ent, sep, Lft, GName, Share, ftrue, froom, flft, fobs, fbor, Env, Calls, Loops, WpFn, Tables, Logic, fact, tables}
+use Rattle.cursor_list.proofs.Vocabulary.{WpFn-mono, Item, ⋆, ‵, ◌⊛◌, at_ret, ◌$◌, ◌∵◌, !, qed, by, move, keep, use1, use2, split, join, group, rewrite, fsplit, fsplit3, fjoin, fjoin3, feq_i, feq_l}
+use Rattle.cursor_list.proofs.Vocabulary.{suffices, frame, done, whole, sub, agg, look_in, store_in, store, init, stop, fld, load, lit, unit_lit, of_opd, bin, and_then, no_more, assigns, assigns_last}
+use Rattle.cursor_list.proofs.Vocabulary.{first, blocks, exec, returns, enter, alloc_all, pass_all, free_all, look_at, get, get_in, through, sets, is, env, Body as Borrowed, yes, no, RattleType, owns}
+use Rattle.cursor_list.proofs.Vocabulary.{mem, lone, Ptr, block_ptr, ptr_val, MutBor, MutRef, RefMutOf, unit, plain, nothing, spared, Clauses, Ended, closing, on_entry, Meets, triple_of, entered}
+use Rattle.cursor_list.proofs.Vocabulary.{run_framed, needs, Stays, stay_dropped, stay_ref, walk_of, ends_at, Goes-dropped, Goes-ref, walk_Meets, after, Good, Ptr-Good, as_fields, α, token, Fits}
+use Rattle.cursor_list.proofs.Vocabulary.{Goes-blank, as_written, Bx, args, X, τ, own, R, P, el_tells, Vacant, vacant_val, vacant_typed, Vacant-had, Link, links_of, IsChained, IsChained-had}
+use Rattle.cursor_list.proofs.Vocabulary.{IsChained-init, IsChained-join, unsnoc, node_val, Hd, block_ty, Held, One, snoc_out, snoc_in, one_opens, one_closes, node_made, KeepsPlaces}
 use contract.Running.{tables_of}
 use Rattle.cursor_list.specs.contracts.nodes.Nodes.link_back.Key.{name as #self}
 use Rattle.cursor_list.proofs.Kept.{keeps_through}

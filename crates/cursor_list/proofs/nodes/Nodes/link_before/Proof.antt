@@ -1,24 +1,14 @@
 -- `link_before` fills the block, and the nodes beside it point to it. Assumes `Logic`.
-use Rattle.cursor_list.proofs.Vocabulary.{◌≡◌, refl, sym, ap, subst, ◌∙◌, ℕ, ◌+◌, ◌<◌, ◌^◌}
-use Rattle.cursor_list.proofs.Vocabulary.{arith, List, [], ◌∷◌, ◌++◌, append_assoc, map-append, length}
-use Rattle.cursor_list.proofs.Vocabulary.{length-append, take, Ura, Fn, named, ty_ptr, w64, inst_fn, Val, vint, vptr}
-use Rattle.cursor_list.proofs.Vocabulary.{vunit, SProp, ent, sep, Lft, GName, Share, ftrue, froom, flft, fobs, fbor}
-use Rattle.cursor_list.proofs.Vocabulary.{Env, Calls, Loops, WpFn, Tables, Logic, fact, tables, WpFn-mono, Item, ⋆}
-use Rattle.cursor_list.proofs.Vocabulary.{‵, ◌⊛◌, at_ret, ◌$◌, ◌∵◌, !, qed, by, move, keep, use1}
-use Rattle.cursor_list.proofs.Vocabulary.{use2, split, join, group, rewrite, fsplit, fsplit3, fjoin, fjoin3, feq_i}
-use Rattle.cursor_list.proofs.Vocabulary.{feq_l, suffices, frame, done, whole, sub, agg, look_in, store_in, look, store}
-use Rattle.cursor_list.proofs.Vocabulary.{init, stop, fld, load, lit, unit_lit, of_opd, bin, and_then, no_more, assigns}
-use Rattle.cursor_list.proofs.Vocabulary.{assigns_last, first, blocks, exec, returns, enter, alloc_all, pass_all}
-use Rattle.cursor_list.proofs.Vocabulary.{free_all, look_at, get, get_in, through, sets, is, env, Body as Borrowed, yes}
-use Rattle.cursor_list.proofs.Vocabulary.{no, RattleType, owns, mem, lone, Ptr, block_ptr, ptr_val, MutBor, MutRef}
-use Rattle.cursor_list.proofs.Vocabulary.{RefMutOf, unit, usize, plain, nothing, spared, Clauses, Ended, closing}
-use Rattle.cursor_list.proofs.Vocabulary.{on_entry, Meets, triple_of, entered, run_framed, needs, Stays, stay_dropped}
-use Rattle.cursor_list.proofs.Vocabulary.{stay_ref, walk_of, ends_at, Goes-dropped, Goes-ref, walk_Meets, after, Good}
-use Rattle.cursor_list.proofs.Vocabulary.{Ptr-Good, word, word-Good, as_fields, α, token, Fits, Goes-blank, as_written}
-use Rattle.cursor_list.proofs.Vocabulary.{Bx, args, X, τ, own, R, P, el_tells, Vacant, vacant_val, vacant_typed}
-use Rattle.cursor_list.proofs.Vocabulary.{Vacant-had, word_had, cut_at, Place, Link, links_of, place_of, IsChained}
-use Rattle.cursor_list.proofs.Vocabulary.{IsChained-had, node_val, Hd, block_ty, Held, One, cons_out, cons_in}
-use Rattle.cursor_list.proofs.Vocabulary.{append_in, one_opens, one_closes, node_made, KeepsPlaces}
+use Rattle.cursor_list.proofs.Vocabulary.{◌≡◌, refl, sym, ap, subst, ◌∙◌, ℕ, ◌+◌, ◌<◌, ◌^◌, arith, List, [], ◌∷◌, ◌++◌, append_assoc, map-append, length, length-append, take, Ura, Fn, named, ty_ptr}
+use Rattle.cursor_list.proofs.Vocabulary.{w64, inst_fn, Val, vint, vptr, vunit, SProp, ent, sep, Lft, GName, Share, ftrue, froom, flft, fobs, fbor, Env, Calls, Loops, WpFn, Tables, Logic, fact}
+use Rattle.cursor_list.proofs.Vocabulary.{tables, WpFn-mono, Item, ⋆, ‵, ◌⊛◌, at_ret, ◌$◌, ◌∵◌, !, qed, by, move, keep, use1, use2, split, join, group, rewrite, fsplit, fsplit3, fjoin, fjoin3, feq_i}
+use Rattle.cursor_list.proofs.Vocabulary.{feq_l, suffices, frame, done, whole, sub, agg, look_in, store_in, look, store, init, stop, fld, load, lit, unit_lit, of_opd, bin, and_then, no_more, assigns}
+use Rattle.cursor_list.proofs.Vocabulary.{assigns_last, first, blocks, exec, returns, enter, alloc_all, pass_all, free_all, look_at, get, get_in, through, sets, is, env, Body as Borrowed, yes, no}
+use Rattle.cursor_list.proofs.Vocabulary.{RattleType, owns, mem, lone, Ptr, block_ptr, ptr_val, MutBor, MutRef, RefMutOf, unit, usize, plain, nothing, spared, Clauses, Ended, closing, on_entry, Meets}
+use Rattle.cursor_list.proofs.Vocabulary.{triple_of, entered, run_framed, needs, Stays, stay_dropped, stay_ref, walk_of, ends_at, Goes-dropped, Goes-ref, walk_Meets, after, Good, Ptr-Good, word}
+use Rattle.cursor_list.proofs.Vocabulary.{word-Good, as_fields, α, token, Fits, Goes-blank, as_written, Bx, args, X, τ, own, R, P, el_tells, Vacant, vacant_val, vacant_typed, Vacant-had, word_had}
+use Rattle.cursor_list.proofs.Vocabulary.{cut_at, Place, Link, links_of, place_of, IsChained, IsChained-had, node_val, Hd, block_ty, Held, One, cons_out, cons_in, append_in, one_opens, one_closes}
+use Rattle.cursor_list.proofs.Vocabulary.{node_made, KeepsPlaces}
 use lib.ListN.{drop}
 use contract.Running.{tables_of}
 use Rattle.cursor_list.specs.contracts.nodes.Nodes.link_before.Key.{name as #self}

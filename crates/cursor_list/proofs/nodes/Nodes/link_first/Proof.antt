@@ -1,21 +1,12 @@
 -- `link_first` fills the block, which is then the only node. Assumes `Logic`.
-use Rattle.cursor_list.proofs.Vocabulary.{◌≡◌, refl, sym, subst, ℕ, List, [], ◌∷◌, ◌++◌, lit<, Ura}
-use Rattle.cursor_list.proofs.Vocabulary.{Fn, named, ty_ptr, inst_fn, Val, vptr, vunit, SProp, ent, sep, Lft, GName}
-use Rattle.cursor_list.proofs.Vocabulary.{Share, ftrue, froom, flft, fobs, fbor, Env, Calls, Loops, WpFn, Tables, Logic}
-use Rattle.cursor_list.proofs.Vocabulary.{fact, tables, WpFn-mono, Item, ⋆, ‵, ◌⊛◌, at_ret, ◌$◌}
-use Rattle.cursor_list.proofs.Vocabulary.{◌∵◌, !, qed, by, move, keep, use1, use2, drop, split, join, group}
-use Rattle.cursor_list.proofs.Vocabulary.{fsplit, fsplit3, fjoin, fjoin3, feq_i, feq_l, suffices, frame, done, whole}
-use Rattle.cursor_list.proofs.Vocabulary.{sub, agg, store_in, init, stop, fld, lit, unit_lit, of_opd, and_then, no_more}
-use Rattle.cursor_list.proofs.Vocabulary.{assigns, assigns_last, first, blocks, exec, returns, enter, alloc_all}
-use Rattle.cursor_list.proofs.Vocabulary.{pass_all, free_all, look_at, get, get_in, through, sets, env}
-use Rattle.cursor_list.proofs.Vocabulary.{Body as Borrowed, yes, no, RattleType, owns, mem, lone, Ptr, block_ptr}
-use Rattle.cursor_list.proofs.Vocabulary.{ptr_val, MutBor, MutRef, RefMutOf, unit, plain, nothing, spared, Clauses}
-use Rattle.cursor_list.proofs.Vocabulary.{Ended, closing, on_entry, Meets, triple_of, entered, run_framed, says, needs}
-use Rattle.cursor_list.proofs.Vocabulary.{Stays, stay_dropped, stay_ref, walk_of, ends_at, Goes-dropped, Goes-ref}
-use Rattle.cursor_list.proofs.Vocabulary.{walk_Meets, after, Good, Ptr-Good, as_fields, α, token, Fits, Goes-blank}
-use Rattle.cursor_list.proofs.Vocabulary.{as_written, Bx, args, X, τ, own, R, P, el_tells, Vacant, vacant_val}
-use Rattle.cursor_list.proofs.Vocabulary.{vacant_typed, Vacant-had, node_val, Hd, block_ty, Held, One, cons_in}
-use Rattle.cursor_list.proofs.Vocabulary.{node_made, name as #self}
+use Rattle.cursor_list.proofs.Vocabulary.{◌≡◌, refl, sym, subst, ℕ, List, [], ◌∷◌, ◌++◌, lit<, Ura, Fn, named, ty_ptr, inst_fn, Val, vptr, vunit, SProp, ent, sep, Lft, GName, Share, ftrue, froom}
+use Rattle.cursor_list.proofs.Vocabulary.{flft, fobs, fbor, Env, Calls, Loops, WpFn, Tables, Logic, fact, tables, WpFn-mono, Item, ⋆, ‵, ◌⊛◌, at_ret, ◌$◌, ◌∵◌, !, qed, by, move, keep, use1, use2}
+use Rattle.cursor_list.proofs.Vocabulary.{drop, split, join, group, fsplit, fsplit3, fjoin, fjoin3, feq_i, feq_l, suffices, frame, done, whole, sub, agg, store_in, init, stop, fld, lit, unit_lit}
+use Rattle.cursor_list.proofs.Vocabulary.{of_opd, and_then, no_more, assigns, assigns_last, first, blocks, exec, returns, enter, alloc_all, pass_all, free_all, look_at, get, get_in, through, sets}
+use Rattle.cursor_list.proofs.Vocabulary.{env, Body as Borrowed, yes, no, RattleType, owns, mem, lone, Ptr, block_ptr, ptr_val, MutBor, MutRef, RefMutOf, unit, plain, nothing, spared, Clauses, Ended}
+use Rattle.cursor_list.proofs.Vocabulary.{closing, on_entry, Meets, triple_of, entered, run_framed, says, needs, Stays, stay_dropped, stay_ref, walk_of, ends_at, Goes-dropped, Goes-ref, walk_Meets}
+use Rattle.cursor_list.proofs.Vocabulary.{after, Good, Ptr-Good, as_fields, α, token, Fits, Goes-blank, as_written, Bx, args, X, τ, own, R, P, el_tells, Vacant, vacant_val, vacant_typed, Vacant-had}
+use Rattle.cursor_list.proofs.Vocabulary.{node_val, Hd, block_ty, Held, One, cons_in, node_made, name as #self}
 use contract.Running.{tables_of}
 use Rattle.cursor_list.proofs.Memory.{D, Nr, nodes_opens, nodes_closes}
 use Rattle.cursor_list.specs.contracts.nodes.Node as Block

@@ -1,23 +1,13 @@
 -- `link_front` fills the block, and the first node points back to it. Assumes `Logic`.
-use Rattle.cursor_list.proofs.Vocabulary.{◌≡◌, refl, sym, ap, subst, ◌∙◌, ℕ, ◌+◌, ◌<◌, ◌^◌}
-use Rattle.cursor_list.proofs.Vocabulary.{arith, List, [], ◌∷◌, ◌++◌, length, Ura, Fn, named, ty_ptr, inst_fn}
-use Rattle.cursor_list.proofs.Vocabulary.{Val, vptr, vunit, SProp, ent, sep, Lft, GName, Share, ftrue, froom, flft}
-use Rattle.cursor_list.proofs.Vocabulary.{fobs, fbor, Env, Calls, Loops, WpFn, Tables, Logic, fact, tables, WpFn-mono}
-use Rattle.cursor_list.proofs.Vocabulary.{Item, ⋆, ‵, ◌⊛◌, at_ret, ◌$◌, ◌∵◌, !, qed, by, move, keep}
-use Rattle.cursor_list.proofs.Vocabulary.{use1, use2, split, join, group, rewrite, fsplit, fsplit3, fjoin, fjoin3}
-use Rattle.cursor_list.proofs.Vocabulary.{feq_i, feq_l, suffices, frame, done, whole, sub, agg, look_in, store_in}
-use Rattle.cursor_list.proofs.Vocabulary.{store, init, stop, fld, load, lit, unit_lit, of_opd, bin, and_then, no_more}
-use Rattle.cursor_list.proofs.Vocabulary.{assigns, assigns_last, first, blocks, exec, returns, enter, alloc_all}
-use Rattle.cursor_list.proofs.Vocabulary.{pass_all, free_all, look_at, get, get_in, through, sets, is, env}
-use Rattle.cursor_list.proofs.Vocabulary.{Body as Borrowed, yes, no, RattleType, owns, mem, lone, Ptr, block_ptr}
-use Rattle.cursor_list.proofs.Vocabulary.{ptr_val, MutBor, MutRef, RefMutOf, unit, plain, nothing, spared, Clauses}
-use Rattle.cursor_list.proofs.Vocabulary.{Ended, closing, on_entry, Meets, triple_of, entered, run_framed, says, needs}
-use Rattle.cursor_list.proofs.Vocabulary.{Stays, stay_dropped, stay_ref, walk_of, ends_at, Goes-dropped, Goes-ref}
-use Rattle.cursor_list.proofs.Vocabulary.{walk_Meets, after, Good, Ptr-Good, as_fields, α, token, Fits, Goes-blank}
-use Rattle.cursor_list.proofs.Vocabulary.{as_written, Bx, args, X, τ, own, R, P, el_tells, Vacant, vacant_val}
-use Rattle.cursor_list.proofs.Vocabulary.{vacant_typed, Vacant-had, Link, links_of, IsChained, LeadsBackTo}
-use Rattle.cursor_list.proofs.Vocabulary.{IsChained-had, IsChained-cons, uncons, node_val, Hd, block_ty, Held, One}
-use Rattle.cursor_list.proofs.Vocabulary.{cons_out, cons_in, one_opens, one_closes, node_made}
+use Rattle.cursor_list.proofs.Vocabulary.{◌≡◌, refl, sym, ap, subst, ◌∙◌, ℕ, ◌+◌, ◌<◌, ◌^◌, arith, List, [], ◌∷◌, ◌++◌, length, Ura, Fn, named, ty_ptr, inst_fn, Val, vptr, vunit, SProp, ent, sep, Lft}
+use Rattle.cursor_list.proofs.Vocabulary.{GName, Share, ftrue, froom, flft, fobs, fbor, Env, Calls, Loops, WpFn, Tables, Logic, fact, tables, WpFn-mono, Item, ⋆, ‵, ◌⊛◌, at_ret, ◌$◌, ◌∵◌, !, qed, by}
+use Rattle.cursor_list.proofs.Vocabulary.{move, keep, use1, use2, split, join, group, rewrite, fsplit, fsplit3, fjoin, fjoin3, feq_i, feq_l, suffices, frame, done, whole, sub, agg, look_in, store_in}
+use Rattle.cursor_list.proofs.Vocabulary.{store, init, stop, fld, load, lit, unit_lit, of_opd, bin, and_then, no_more, assigns, assigns_last, first, blocks, exec, returns, enter, alloc_all, pass_all}
+use Rattle.cursor_list.proofs.Vocabulary.{free_all, look_at, get, get_in, through, sets, is, env, Body as Borrowed, yes, no, RattleType, owns, mem, lone, Ptr, block_ptr, ptr_val, MutBor, MutRef}
+use Rattle.cursor_list.proofs.Vocabulary.{RefMutOf, unit, plain, nothing, spared, Clauses, Ended, closing, on_entry, Meets, triple_of, entered, run_framed, says, needs, Stays, stay_dropped, stay_ref}
+use Rattle.cursor_list.proofs.Vocabulary.{walk_of, ends_at, Goes-dropped, Goes-ref, walk_Meets, after, Good, Ptr-Good, as_fields, α, token, Fits, Goes-blank, as_written, Bx, args, X, τ, own, R, P}
+use Rattle.cursor_list.proofs.Vocabulary.{el_tells, Vacant, vacant_val, vacant_typed, Vacant-had, Link, links_of, IsChained, LeadsBackTo, IsChained-had, IsChained-cons, uncons, node_val, Hd, block_ty}
+use Rattle.cursor_list.proofs.Vocabulary.{Held, One, cons_out, cons_in, one_opens, one_closes, node_made}
 use contract.Running.{tables_of}
 use Rattle.cursor_list.specs.contracts.nodes.Nodes.link_front.Key.{name as #self}
 use Rattle.cursor_list.proofs.Memory.{D, Nr, nodes_opens, nodes_closes}

@@ -1,11 +1,7 @@
 -- `new` owns nothing. Assumes `Logic`.
-use Rattle.cursor_list.proofs.Vocabulary.{◌≡◌, refl, [], ◌∷◌, lit<, Ura, Fn, inst_fn, ent, emp, via, fst∗}
-use Rattle.cursor_list.proofs.Vocabulary.{ftrue, Calls, Loops, WpFn, Tables, Logic, fact, tables, WpFn-mono, ‵}
-use Rattle.cursor_list.proofs.Vocabulary.{◌$◌, ◌∵◌, !, qed, keep, join, fjoin, suffices, done, agg, stop}
-use Rattle.cursor_list.proofs.Vocabulary.{from, lit, addr, and_then, no_more, returns, enter, alloc_all, pass_all}
-use Rattle.cursor_list.proofs.Vocabulary.{free_all, look_at, get, sets, Ptr, block_ptr, plain, nothing, spared, Clauses}
-use Rattle.cursor_list.proofs.Vocabulary.{Ended, closing, on_entry, Meets, triple_of, entered, run_framed, says, Stays}
-use Rattle.cursor_list.proofs.Vocabulary.{walk_of, ends_at, walk_Meets, Bx, args, words}
+use Rattle.cursor_list.proofs.Vocabulary.{◌≡◌, refl, [], ◌∷◌, lit<, Ura, Fn, inst_fn, ent, emp, via, fst∗, ftrue, Calls, Loops, WpFn, Tables, Logic, fact, tables, WpFn-mono, ‵, ◌$◌, ◌∵◌, !, qed, keep}
+use Rattle.cursor_list.proofs.Vocabulary.{join, fjoin, suffices, done, agg, stop, from, lit, addr, and_then, no_more, returns, enter, alloc_all, pass_all, free_all, look_at, get, sets, Ptr, block_ptr}
+use Rattle.cursor_list.proofs.Vocabulary.{plain, nothing, spared, Clauses, Ended, closing, on_entry, Meets, triple_of, entered, run_framed, says, Stays, walk_of, ends_at, walk_Meets, Bx, args, words}
 use contract.Running.{tables_of}
 use Rattle.cursor_list.specs.contracts.nodes.Nodes.new.Key.{name as #self}
 use Rattle.cursor_list.proofs.Memory.{D, Nr, nodes_made}

@@ -1,19 +1,11 @@
 -- `next` reads a pointer of a node that the chain lends. Assumes `Logic`.
-use Rattle.cursor_list.proofs.Vocabulary.{◌≡◌, refl, sym, ap, subst, ◌∙◌, ℕ, suc, ◌+◌, ◌<◌}
-use Rattle.cursor_list.proofs.Vocabulary.{◌^◌, arith, List, [], ◌∷◌, ◌++◌, length-map, Ura, Fn, named}
-use Rattle.cursor_list.proofs.Vocabulary.{w64, inst_fn, Val, vint, vptr, SProp, ent, never, fst∗, Lft, Share, ftrue}
-use Rattle.cursor_list.proofs.Vocabulary.{flft, Env, Calls, Loops, WpFn, Tables, Logic, sem, fact, tables, WpFn-mono}
-use Rattle.cursor_list.proofs.Vocabulary.{Item, ⋆, ‵, ◌⊛◌, at_ret, ◌$◌, ◌∵◌, !, qed, by, move, keep}
-use Rattle.cursor_list.proofs.Vocabulary.{use1, drop, split, join, fsplit, fsplit3, fjoin, feq_l, suffices, done, whole}
-use Rattle.cursor_list.proofs.Vocabulary.{sub, agg, look, stop, fld, load, of_opd, and_then, no_more, first, blocks}
-use Rattle.cursor_list.proofs.Vocabulary.{exec, returns, enter, alloc_all, pass_all, free_all, look_at, get, get_in}
-use Rattle.cursor_list.proofs.Vocabulary.{through, sets, sets_last, is, env, yes, no, owns, shared_of, hidden_shr}
-use Rattle.cursor_list.proofs.Vocabulary.{ptr_val, in_a_block, ◌+ₚ◌, RawPtr, Bor, ShrRef, RefOf, usize, plain}
-use Rattle.cursor_list.proofs.Vocabulary.{nothing, hide, spared, Clauses, Ended, closing, on_entry, Meets, triple_of}
-use Rattle.cursor_list.proofs.Vocabulary.{entered, run_framed, says, needs, Stays, stay_dropped, walk_of, ends_at}
-use Rattle.cursor_list.proofs.Vocabulary.{Goes-dropped, walk_Meets, after, Ptr-Good, word, word-Good, lent_at, Place}
-use Rattle.cursor_list.proofs.Vocabulary.{Link, links_of, place_of, word_had, word_made, IsChained-had, link_at}
-use Rattle.cursor_list.proofs.Vocabulary.{place_of-is, next_is, Bx, args, pointer_in, pointer_out, link_lent_at}
+use Rattle.cursor_list.proofs.Vocabulary.{◌≡◌, refl, sym, ap, subst, ◌∙◌, ℕ, suc, ◌+◌, ◌<◌, ◌^◌, arith, List, [], ◌∷◌, ◌++◌, length-map, Ura, Fn, named, w64, inst_fn, Val, vint, vptr, SProp, ent}
+use Rattle.cursor_list.proofs.Vocabulary.{never, fst∗, Lft, Share, ftrue, flft, Env, Calls, Loops, WpFn, Tables, Logic, sem, fact, tables, WpFn-mono, Item, ⋆, ‵, ◌⊛◌, at_ret, ◌$◌, ◌∵◌, !, qed, by}
+use Rattle.cursor_list.proofs.Vocabulary.{move, keep, use1, drop, split, join, fsplit, fsplit3, fjoin, feq_l, suffices, done, whole, sub, agg, look, stop, fld, load, of_opd, and_then, no_more, first}
+use Rattle.cursor_list.proofs.Vocabulary.{blocks, exec, returns, enter, alloc_all, pass_all, free_all, look_at, get, get_in, through, sets, sets_last, is, env, yes, no, owns, shared_of, hidden_shr}
+use Rattle.cursor_list.proofs.Vocabulary.{ptr_val, in_a_block, ◌+ₚ◌, RawPtr, Bor, ShrRef, RefOf, usize, plain, nothing, hide, spared, Clauses, Ended, closing, on_entry, Meets, triple_of, entered}
+use Rattle.cursor_list.proofs.Vocabulary.{run_framed, says, needs, Stays, stay_dropped, walk_of, ends_at, Goes-dropped, walk_Meets, after, Ptr-Good, word, word-Good, lent_at, Place, Link, links_of}
+use Rattle.cursor_list.proofs.Vocabulary.{place_of, word_had, word_made, IsChained-had, link_at, place_of-is, next_is, Bx, args, pointer_in, pointer_out, link_lent_at}
 use contract.Running.{tables_of}
 use Rattle.cursor_list.specs.contracts.nodes.Nodes.next.Key.{name as #self}
 use Rattle.cursor_list.proofs.Memory.{D, Nr, nodes_seen}

@@ -1,23 +1,13 @@
 -- `unlink` moves the element and the handle out of a node, and those beside it point past it. Assumes `Logic`.
-use Rattle.cursor_list.proofs.Vocabulary.{◌≡◌, refl, sym, ap, subst, ◌∙◌, ℕ, ◌+◌, ◌-◌, ◌≤◌}
-use Rattle.cursor_list.proofs.Vocabulary.{◌<◌, ◌^◌, arith, List, [], ◌∷◌, ◌++◌, append_assoc}
-use Rattle.cursor_list.proofs.Vocabulary.{map-append, length, length-append, take, Ura, Fn, named, w64, inst_fn, Val}
-use Rattle.cursor_list.proofs.Vocabulary.{vint, vptr, SProp, ent, sep, Lft, GName, Share, ftrue, flft, fobs, fbor, Env}
-use Rattle.cursor_list.proofs.Vocabulary.{Calls, Loops, WpFn, Tables, Logic, sem, fact, tables, WpFn-mono, Item, ⋆}
-use Rattle.cursor_list.proofs.Vocabulary.{‵, ◌⊛◌, at_ret, ◌$◌, ◌∵◌, !, qed, by, move, keep, use1}
-use Rattle.cursor_list.proofs.Vocabulary.{use2, split, join, rewrite, fsplit, fsplit3, fjoin, fjoin3, feq_i, feq_l}
-use Rattle.cursor_list.proofs.Vocabulary.{suffices, frame, done, whole, sub, agg, look_in, store_in, look, store, stop}
-use Rattle.cursor_list.proofs.Vocabulary.{fld, load, lit, of_opd, bin, addr, and_then, no_more, assigns, first, blocks}
-use Rattle.cursor_list.proofs.Vocabulary.{exec, returns, enter, alloc_all, pass_all, free_all, look_at, get, get_in}
-use Rattle.cursor_list.proofs.Vocabulary.{through, sets, sets_last, is, env, Body as Borrowed, yes, no, RattleType}
-use Rattle.cursor_list.proofs.Vocabulary.{owns, mem, Ptr, block_ptr, ptr_val, MutBor, MutRef, RefMutOf, usize, plain}
-use Rattle.cursor_list.proofs.Vocabulary.{nothing, spared, Clauses, Ended, closing, on_entry, Meets, triple_of, entered}
-use Rattle.cursor_list.proofs.Vocabulary.{run_framed, needs, Stays, stay_dropped, stay_ref, walk_of, ends_at}
-use Rattle.cursor_list.proofs.Vocabulary.{Goes-dropped, Goes-ref, walk_Meets, after, word, word-Good, Bx, args, X, τ}
-use Rattle.cursor_list.proofs.Vocabulary.{R, P, Vacant, vacant_val, vacant_ty, vacant_typed, Vacant-made, pair_val}
-use Rattle.cursor_list.proofs.Vocabulary.{pair_Typed, pair_of, Tuple, word_had, cut_at, Place, Link, links_of, place_of}
-use Rattle.cursor_list.proofs.Vocabulary.{IsChained, IsChained-had, uncons, Hd, Held, One, cons_out, cons_in, append_in}
-use Rattle.cursor_list.proofs.Vocabulary.{one_opens, one_closes, node_unmade, block_back, KeepsPlaces}
+use Rattle.cursor_list.proofs.Vocabulary.{◌≡◌, refl, sym, ap, subst, ◌∙◌, ℕ, ◌+◌, ◌-◌, ◌≤◌, ◌<◌, ◌^◌, arith, List, [], ◌∷◌, ◌++◌, append_assoc, map-append, length, length-append, take, Ura, Fn, named}
+use Rattle.cursor_list.proofs.Vocabulary.{w64, inst_fn, Val, vint, vptr, SProp, ent, sep, Lft, GName, Share, ftrue, flft, fobs, fbor, Env, Calls, Loops, WpFn, Tables, Logic, sem, fact, tables}
+use Rattle.cursor_list.proofs.Vocabulary.{WpFn-mono, Item, ⋆, ‵, ◌⊛◌, at_ret, ◌$◌, ◌∵◌, !, qed, by, move, keep, use1, use2, split, join, rewrite, fsplit, fsplit3, fjoin, fjoin3, feq_i, feq_l}
+use Rattle.cursor_list.proofs.Vocabulary.{suffices, frame, done, whole, sub, agg, look_in, store_in, look, store, stop, fld, load, lit, of_opd, bin, addr, and_then, no_more, assigns, first, blocks}
+use Rattle.cursor_list.proofs.Vocabulary.{exec, returns, enter, alloc_all, pass_all, free_all, look_at, get, get_in, through, sets, sets_last, is, env, Body as Borrowed, yes, no, RattleType, owns}
+use Rattle.cursor_list.proofs.Vocabulary.{mem, Ptr, block_ptr, ptr_val, MutBor, MutRef, RefMutOf, usize, plain, nothing, spared, Clauses, Ended, closing, on_entry, Meets, triple_of, entered}
+use Rattle.cursor_list.proofs.Vocabulary.{run_framed, needs, Stays, stay_dropped, stay_ref, walk_of, ends_at, Goes-dropped, Goes-ref, walk_Meets, after, word, word-Good, Bx, args, X, τ, R, P, Vacant}
+use Rattle.cursor_list.proofs.Vocabulary.{vacant_val, vacant_ty, vacant_typed, Vacant-made, pair_val, pair_Typed, pair_of, Tuple, word_had, cut_at, Place, Link, links_of, place_of, IsChained}
+use Rattle.cursor_list.proofs.Vocabulary.{IsChained-had, uncons, Hd, Held, One, cons_out, cons_in, append_in, one_opens, one_closes, node_unmade, block_back, KeepsPlaces}
 use lib.ListN.{drop}
 use contract.Running.{tables_of}
 use Rattle.cursor_list.specs.contracts.nodes.Nodes.unlink.Key.{name as #self}

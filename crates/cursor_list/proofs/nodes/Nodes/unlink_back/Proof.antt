@@ -1,21 +1,12 @@
 -- `unlink_back` moves the element and the handle out of the last node. Assumes `Logic`.
-use Rattle.cursor_list.proofs.Vocabulary.{◌≡◌, refl, sym, ap, subst, ◌∙◌, ℕ, ◌-◌, ◌≤◌, ◌<◌}
-use Rattle.cursor_list.proofs.Vocabulary.{◌^◌, arith, List, [], ◌∷◌, ◌++◌, map-append, length}
-use Rattle.cursor_list.proofs.Vocabulary.{length-append, Ura, Fn, named, inst_fn, Val, vptr, SProp, ent, sep, Lft}
-use Rattle.cursor_list.proofs.Vocabulary.{GName, Share, ftrue, flft, fobs, fbor, Env, Calls, Loops, WpFn, Tables, Logic}
-use Rattle.cursor_list.proofs.Vocabulary.{sem, fact, tables, WpFn-mono, Item, ⋆, ‵, ◌⊛◌, at_ret, ◌$◌}
-use Rattle.cursor_list.proofs.Vocabulary.{◌∵◌, !, qed, by, move, keep, use1, use2, split, join, rewrite, fsplit}
-use Rattle.cursor_list.proofs.Vocabulary.{fsplit3, fjoin, fjoin3, feq_i, feq_l, suffices, frame, done, whole, sub, agg}
-use Rattle.cursor_list.proofs.Vocabulary.{look_in, store_in, look, stop, fld, load, lit, of_opd, bin, addr, and_then}
-use Rattle.cursor_list.proofs.Vocabulary.{no_more, assigns, first, blocks, exec, returns, enter, alloc_all, pass_all}
-use Rattle.cursor_list.proofs.Vocabulary.{free_all, look_at, get, through, sets, sets_last, is, env, Body as Borrowed}
-use Rattle.cursor_list.proofs.Vocabulary.{yes, RattleType, owns, mem, block_ptr, ptr_val, MutBor, MutRef, RefMutOf}
-use Rattle.cursor_list.proofs.Vocabulary.{plain, nothing, spared, Clauses, Ended, closing, on_entry, Meets, triple_of}
-use Rattle.cursor_list.proofs.Vocabulary.{entered, run_framed, needs, Stays, stay_ref, walk_of, ends_at, Goes-ref}
-use Rattle.cursor_list.proofs.Vocabulary.{walk_Meets, after, Ptr-Good, Bx, args, X, τ, R, P, Vacant, vacant_val}
-use Rattle.cursor_list.proofs.Vocabulary.{vacant_ty, vacant_typed, Vacant-made, pair_val, pair_Typed, pair_of, Tuple}
-use Rattle.cursor_list.proofs.Vocabulary.{Link, links_of, IsChained, IsChained-had, IsChained-init, unsnoc, Hd, Held}
-use Rattle.cursor_list.proofs.Vocabulary.{One, snoc_out, one_opens, node_unmade, block_back, KeepsPlaces}
+use Rattle.cursor_list.proofs.Vocabulary.{◌≡◌, refl, sym, ap, subst, ◌∙◌, ℕ, ◌-◌, ◌≤◌, ◌<◌, ◌^◌, arith, List, [], ◌∷◌, ◌++◌, map-append, length, length-append, Ura, Fn, named, inst_fn, Val, vptr}
+use Rattle.cursor_list.proofs.Vocabulary.{SProp, ent, sep, Lft, GName, Share, ftrue, flft, fobs, fbor, Env, Calls, Loops, WpFn, Tables, Logic, sem, fact, tables, WpFn-mono, Item, ⋆, ‵, ◌⊛◌, at_ret}
+use Rattle.cursor_list.proofs.Vocabulary.{◌$◌, ◌∵◌, !, qed, by, move, keep, use1, use2, split, join, rewrite, fsplit, fsplit3, fjoin, fjoin3, feq_i, feq_l, suffices, frame, done, whole, sub, agg}
+use Rattle.cursor_list.proofs.Vocabulary.{look_in, store_in, look, stop, fld, load, lit, of_opd, bin, addr, and_then, no_more, assigns, first, blocks, exec, returns, enter, alloc_all, pass_all}
+use Rattle.cursor_list.proofs.Vocabulary.{free_all, look_at, get, through, sets, sets_last, is, env, Body as Borrowed, yes, RattleType, owns, mem, block_ptr, ptr_val, MutBor, MutRef, RefMutOf, plain}
+use Rattle.cursor_list.proofs.Vocabulary.{nothing, spared, Clauses, Ended, closing, on_entry, Meets, triple_of, entered, run_framed, needs, Stays, stay_ref, walk_of, ends_at, Goes-ref, walk_Meets}
+use Rattle.cursor_list.proofs.Vocabulary.{after, Ptr-Good, Bx, args, X, τ, R, P, Vacant, vacant_val, vacant_ty, vacant_typed, Vacant-made, pair_val, pair_Typed, pair_of, Tuple, Link, links_of}
+use Rattle.cursor_list.proofs.Vocabulary.{IsChained, IsChained-had, IsChained-init, unsnoc, Hd, Held, One, snoc_out, one_opens, node_unmade, block_back, KeepsPlaces}
 use contract.Running.{tables_of}
 use Rattle.cursor_list.specs.contracts.nodes.Nodes.unlink_back.Key.{name as #self}
 use Rattle.cursor_list.proofs.Kept.{keeps_front}

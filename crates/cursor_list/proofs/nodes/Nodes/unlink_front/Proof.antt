@@ -1,21 +1,12 @@
 -- `unlink_front` moves the element and the handle out of the first node. Assumes `Logic`.
-use Rattle.cursor_list.proofs.Vocabulary.{◌≡◌, refl, sym, ap, subst, ◌∙◌, ℕ, ◌-◌, ◌≤◌, ◌<◌}
-use Rattle.cursor_list.proofs.Vocabulary.{◌^◌, arith, List, [], ◌∷◌, ◌++◌, length, Ura, Fn, named}
-use Rattle.cursor_list.proofs.Vocabulary.{inst_fn, Val, vptr, SProp, ent, sep, Lft, GName, Share, ftrue, flft, fobs}
-use Rattle.cursor_list.proofs.Vocabulary.{fbor, Env, Calls, Loops, WpFn, Tables, Logic, sem, fact, tables, WpFn-mono}
-use Rattle.cursor_list.proofs.Vocabulary.{Item, ⋆, ‵, ◌⊛◌, at_ret, ◌$◌, ◌∵◌, !, qed, by, move, keep}
-use Rattle.cursor_list.proofs.Vocabulary.{use1, use2, split, join, rewrite, fsplit, fsplit3, fjoin, fjoin3, feq_i}
-use Rattle.cursor_list.proofs.Vocabulary.{feq_l, suffices, frame, done, whole, sub, agg, look_in, store_in, look, stop}
-use Rattle.cursor_list.proofs.Vocabulary.{fld, load, lit, of_opd, bin, addr, and_then, no_more, assigns, first, blocks}
-use Rattle.cursor_list.proofs.Vocabulary.{exec, returns, enter, alloc_all, pass_all, free_all, look_at, get, through}
-use Rattle.cursor_list.proofs.Vocabulary.{sets, sets_last, is, env, Body as Borrowed, yes, RattleType, owns, mem}
-use Rattle.cursor_list.proofs.Vocabulary.{block_ptr, ptr_val, MutBor, MutRef, RefMutOf, plain, nothing, spared, Clauses}
-use Rattle.cursor_list.proofs.Vocabulary.{Ended, closing, on_entry, Meets, triple_of, entered, run_framed, says, needs}
-use Rattle.cursor_list.proofs.Vocabulary.{Stays, stay_ref, walk_of, ends_at, Goes-ref, walk_Meets, after, Ptr-Good, Bx}
-use Rattle.cursor_list.proofs.Vocabulary.{args, X, τ, R, P, Vacant, vacant_val, vacant_ty, vacant_typed, Vacant-made}
-use Rattle.cursor_list.proofs.Vocabulary.{pair_val, pair_Typed, pair_of, Tuple, Link, links_of, IsChained}
-use Rattle.cursor_list.proofs.Vocabulary.{IsChained-had, IsChained-tail, uncons, Hd, Held, One, cons_out, one_opens}
-use Rattle.cursor_list.proofs.Vocabulary.{node_unmade, block_back}
+use Rattle.cursor_list.proofs.Vocabulary.{◌≡◌, refl, sym, ap, subst, ◌∙◌, ℕ, ◌-◌, ◌≤◌, ◌<◌, ◌^◌, arith, List, [], ◌∷◌, ◌++◌, length, Ura, Fn, named, inst_fn, Val, vptr, SProp, ent, sep, Lft, GName}
+use Rattle.cursor_list.proofs.Vocabulary.{Share, ftrue, flft, fobs, fbor, Env, Calls, Loops, WpFn, Tables, Logic, sem, fact, tables, WpFn-mono, Item, ⋆, ‵, ◌⊛◌, at_ret, ◌$◌, ◌∵◌, !, qed, by, move}
+use Rattle.cursor_list.proofs.Vocabulary.{keep, use1, use2, split, join, rewrite, fsplit, fsplit3, fjoin, fjoin3, feq_i, feq_l, suffices, frame, done, whole, sub, agg, look_in, store_in, look, stop}
+use Rattle.cursor_list.proofs.Vocabulary.{fld, load, lit, of_opd, bin, addr, and_then, no_more, assigns, first, blocks, exec, returns, enter, alloc_all, pass_all, free_all, look_at, get, through}
+use Rattle.cursor_list.proofs.Vocabulary.{sets, sets_last, is, env, Body as Borrowed, yes, RattleType, owns, mem, block_ptr, ptr_val, MutBor, MutRef, RefMutOf, plain, nothing, spared, Clauses, Ended}
+use Rattle.cursor_list.proofs.Vocabulary.{closing, on_entry, Meets, triple_of, entered, run_framed, says, needs, Stays, stay_ref, walk_of, ends_at, Goes-ref, walk_Meets, after, Ptr-Good, Bx, args, X}
+use Rattle.cursor_list.proofs.Vocabulary.{τ, R, P, Vacant, vacant_val, vacant_ty, vacant_typed, Vacant-made, pair_val, pair_Typed, pair_of, Tuple, Link, links_of, IsChained, IsChained-had}
+use Rattle.cursor_list.proofs.Vocabulary.{IsChained-tail, uncons, Hd, Held, One, cons_out, one_opens, node_unmade, block_back}
 use contract.Running.{tables_of}
 use Rattle.cursor_list.specs.contracts.nodes.Nodes.unlink_front.Key.{name as #self}
 use Rattle.cursor_list.proofs.Memory.{D, Nr, nodes_opens, nodes_closes}

@@ -1,5 +1,4 @@
-use Rattle.enf_data.proofs.Vocabulary.{[], ◌∷◌, ◌++◌, ap, append_assoc, subst, sym, ◌∙◌, IfOk-at_ok}
-use Rattle.enf_data.proofs.Vocabulary.{HasNoRepeats}
+use Rattle.enf_data.proofs.Vocabulary.{[], ◌∷◌, ◌++◌, ap, append_assoc, subst, sym, ◌∙◌, IfOk-at_ok, HasNoRepeats}
 use Rattle.enf_data.proofs.TableKeys.{distinct_kept, firsts_more, ok_through}
 use Rattle.enf_data.proofs.event_sets.EventSet.from_vec.Goals as goal
 

@@ -1,5 +1,4 @@
-use Rattle.enf_formula.proofs.Vocabulary.{◌≡◌, List, Contains, OnOk, ⊎_elim, sym, subst, ◌⊎◌}
-use Rattle.enf_formula.proofs.Vocabulary.{on_ok_weaker, Term, Var, VarId, tree_of, AddsVariables, IsFree}
+use Rattle.enf_formula.proofs.Vocabulary.{◌≡◌, List, Contains, OnOk, ⊎_elim, sym, subst, ◌⊎◌, on_ok_weaker, Term, Var, VarId, tree_of, AddsVariables, IsFree}
 use Rattle.enf_formula.specs.declared.formulas.Formula.{Formula as Stored}
 use Rattle.enf_formula.proofs.Gathering.{adds_both, adds_inner}
 use Rattle.enf_formula.proofs.formulas.Formula.+gather.Goals as goal

@@ -1,5 +1,4 @@
-use Rattle.enf_run.proofs.Vocabulary.{◌≡◌, ℕ, ap, arith, refl, subst, suc, sym, ◌∙◌, Step, generated_step}
-use Rattle.enf_run.proofs.Vocabulary.{early, SampleDrillFinds, FinishesDrill}
+use Rattle.enf_run.proofs.Vocabulary.{◌≡◌, ℕ, ap, arith, refl, subst, suc, sym, ◌∙◌, Step, generated_step, early, SampleDrillFinds, FinishesDrill}
 use Rattle.enf_run.proofs.DrillLemmas.{Runs, all_made, ok_weaker, runs_end, runs_more, runs_none}
 use Rattle.enf_run.proofs.drills.Drill.run.Goals as goal
 

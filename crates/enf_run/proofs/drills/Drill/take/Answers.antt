@@ -1,5 +1,4 @@
-use Rattle.enf_run.proofs.Vocabulary.{List, ◌+◌, ◌*◌, ◌^◌, ◌∙◌, ap, length, subst, acted_steps}
-use Rattle.enf_run.proofs.Vocabulary.{TallyAtMost, tally_with}
+use Rattle.enf_run.proofs.Vocabulary.{List, ◌+◌, ◌*◌, ◌^◌, ◌∙◌, ap, length, subst, acted_steps, TallyAtMost, tally_with}
 use Rattle.enforcer_core.specs.declared.steps.OutStep.{OutStep}
 use Rattle.enf_run.proofs.drills.Drill.take.Goals as goal
 

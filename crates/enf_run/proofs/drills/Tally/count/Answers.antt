@@ -1,5 +1,4 @@
-use Rattle.enf_run.proofs.Vocabulary.{◌∷◌, [], ◌+◌, ◌*◌, ◌^◌, ap, arith, sym, ◌∙◌, take}
-use Rattle.enf_run.proofs.Vocabulary.{acted_step, acted_steps, tally_with}
+use Rattle.enf_run.proofs.Vocabulary.{◌∷◌, [], ◌+◌, ◌*◌, ◌^◌, ap, arith, sym, ◌∙◌, take, acted_step, acted_steps, tally_with}
 use Rattle.enf_run.proofs.DrillLemmas.{and_more, and_none, at_most_more}
 use Rattle.enf_run.proofs.LineLemmas.{taken_next}
 use Rattle.enf_run.proofs.drills.Tally.count.Goals as goal

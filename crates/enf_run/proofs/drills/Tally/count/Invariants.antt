@@ -1,5 +1,4 @@
-use Rattle.enf_run.proofs.Vocabulary.{◌≡◌, ◌+◌, ◌*◌, ◌^◌, ℕ, take, acted_steps, TallyAtMost}
-use Rattle.enf_run.proofs.Vocabulary.{tally_with}
+use Rattle.enf_run.proofs.Vocabulary.{◌≡◌, ◌+◌, ◌*◌, ◌^◌, ℕ, take, acted_steps, TallyAtMost, tally_with}
 use Rattle.enf_run.proofs.drills.Tally.count.Given as goal
 
 abbrev pub invariant-loop-step : goal.invariant-loop-step

@@ -1,7 +1,5 @@
-use Rattle.enforcer_core.proofs.Vocabulary.{◌+◌, ◌≤◌, ℕ, All, false, Contains, subst, sym, arith, ActedStep}
-use Rattle.enforcer_core.proofs.Vocabulary.{typed_of, EnforcerDrains, Enforcing, acted_steps, FollowsDrainFrom, Stands}
-use Rattle.enforcer_core.proofs.EnforcerLemmas.{drain_ends, drain_follows, drain_justified, drain_within, drains}
-use Rattle.enforcer_core.proofs.EnforcerLemmas.{going, seen, serving, works_seen}
+use Rattle.enforcer_core.proofs.Vocabulary.{◌+◌, ◌≤◌, ℕ, All, false, Contains, subst, sym, arith, ActedStep, typed_of, EnforcerDrains, Enforcing, acted_steps, FollowsDrainFrom, Stands}
+use Rattle.enforcer_core.proofs.EnforcerLemmas.{drain_ends, drain_follows, drain_justified, drain_within, drains, going, seen, serving, works_seen}
 use Rattle.enforcer_core.proofs.TransparencyLemmas.{drain_alone}
 use Rattle.enforcer_core.proofs.enforcer.Enforcer.drain.Goals as goal
 

@@ -1,8 +1,6 @@
-use Rattle.enforcer_core.proofs.Vocabulary.{ℕ, ◌≤◌, List, length, map, refl, sym, subst, arith, AllByRecursion}
-use Rattle.enforcer_core.proofs.Vocabulary.{BoundFormula, guards_of, plan_of, AreCopies, tree_in, all_operators}
-use Rattle.enforcer_core.proofs.Vocabulary.{AreKeptOf, MOST_HORIZON, WorkTogether, typed_of, placed_guard, NoneIsOver}
-use Rattle.enforcer_core.proofs.Vocabulary.{Pend, Instance, MOST_TIME, reach_of, CanAskOf, CanAskRoots, IsPendingListOf}
-use Rattle.enforcer_core.proofs.Vocabulary.{policy_plans, AreFactsOf, policy_operators}
+use Rattle.enforcer_core.proofs.Vocabulary.{ℕ, ◌≤◌, List, length, map, refl, sym, subst, arith, AllByRecursion, BoundFormula, guards_of, plan_of, AreCopies, tree_in, all_operators, AreKeptOf}
+use Rattle.enforcer_core.proofs.Vocabulary.{MOST_HORIZON, WorkTogether, typed_of, placed_guard, NoneIsOver, Pend, Instance, MOST_TIME, reach_of, CanAskOf, CanAskRoots, IsPendingListOf, policy_plans}
+use Rattle.enforcer_core.proofs.Vocabulary.{AreFactsOf, policy_operators}
 use Rattle.plan_terms.specs.declared.plans.Plan.{Plan as StoredPlan}
 use Rattle.enforcer_core.proofs.SnapshotLemmas.{all_asked, from_clock, kept_in_reach, none_over_kept, rows_rise}
 use Rattle.enforcer_core.proofs.enforcer.Enforcer.from_snapshot.Goals as goal

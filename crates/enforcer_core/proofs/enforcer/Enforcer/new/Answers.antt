@@ -1,7 +1,5 @@
-use Rattle.enforcer_core.proofs.Vocabulary.{ℕ, ◌≤◌, List, [], length, map, refl, sym, subst, arith}
-use Rattle.enforcer_core.proofs.Vocabulary.{AllByRecursion, All-nil, BoundFormula, guards_of, plan_of, AreCopies}
-use Rattle.enforcer_core.proofs.Vocabulary.{MOST_HORIZON, WorkTogether, typed_of, placed_guard, HasDeadline, NoneIsOver}
-use Rattle.enforcer_core.proofs.Vocabulary.{CanAskOf, Instance, MOST_TIME, reach_of, policy_plans, AreFactsOf}
+use Rattle.enforcer_core.proofs.Vocabulary.{ℕ, ◌≤◌, List, [], length, map, refl, sym, subst, arith, AllByRecursion, All-nil, BoundFormula, guards_of, plan_of, AreCopies, MOST_HORIZON, WorkTogether}
+use Rattle.enforcer_core.proofs.Vocabulary.{typed_of, placed_guard, HasDeadline, NoneIsOver, CanAskOf, Instance, MOST_TIME, reach_of, policy_plans, AreFactsOf}
 use Rattle.plan_terms.specs.declared.plans.Plan.{Plan as StoredPlan}
 use Rattle.enforcer_core.proofs.enforcer.Enforcer.new.Goals as goal
 

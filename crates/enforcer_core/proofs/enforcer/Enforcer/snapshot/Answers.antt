@@ -1,5 +1,4 @@
-use Rattle.enforcer_core.proofs.Vocabulary.{◌≡◌, false, refl, sym, subst, AreCopies, all_operators, AreKeptOf}
-use Rattle.enforcer_core.proofs.Vocabulary.{Pend, Snapshot, Enforcing, policy_plans, IsKeptOf, SavesTrace}
+use Rattle.enforcer_core.proofs.Vocabulary.{◌≡◌, false, refl, sym, subst, AreCopies, all_operators, AreKeptOf, Pend, Snapshot, Enforcing, policy_plans, IsKeptOf, SavesTrace}
 use Rattle.enforcer_core.proofs.SnapshotLemmas.{few_operators, same_formulas}
 use Rattle.enforcer_core.proofs.enforcer.Enforcer.snapshot.Goals as goal
 

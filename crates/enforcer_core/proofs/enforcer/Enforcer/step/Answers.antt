@@ -1,5 +1,4 @@
-use Rattle.enforcer_core.proofs.Vocabulary.{◌≡◌, false, [], ◌∷◌, sym, subst, StepRecord, Enforcing}
-use Rattle.enforcer_core.proofs.Vocabulary.{acted_steps, LetsOut, FollowsFrom}
+use Rattle.enforcer_core.proofs.Vocabulary.{◌≡◌, false, [], ◌∷◌, sym, subst, StepRecord, Enforcing, acted_steps, LetsOut, FollowsFrom}
 use Rattle.enforcer_core.proofs.EnforcerLemmas.{going, records_justified, seen, serving, works_seen}
 use Rattle.enforcer_core.proofs.RecordLemmas.{takes_record}
 use Rattle.enforcer_core.proofs.TransparencyLemmas.{records_alone}

@@ -1,5 +1,4 @@
-use Rattle.enforcer_core.proofs.Vocabulary.{◌≡◌, ◌<◌, ◌≤◌, false, [], ◌∷◌, Contains, sym, subst}
-use Rattle.enforcer_core.proofs.Vocabulary.{arith, Tick, Enforcing, acted_steps, LetsOut, FollowsFrom}
+use Rattle.enforcer_core.proofs.Vocabulary.{◌≡◌, ◌<◌, ◌≤◌, false, [], ◌∷◌, Contains, sym, subst, arith, Tick, Enforcing, acted_steps, LetsOut, FollowsFrom}
 use Rattle.enforcer_core.proofs.EnforcerLemmas.{going, records_justified, seen, serving, works_seen}
 use Rattle.enforcer_core.proofs.RecordLemmas.{takes_record}
 use Rattle.enforcer_core.proofs.TransparencyLemmas.{records_alone}

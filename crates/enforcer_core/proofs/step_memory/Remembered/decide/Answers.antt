@@ -1,7 +1,5 @@
-use Rattle.enforcer_core.proofs.Vocabulary.{Contains, List, [], ◌∷◌, ◌++◌, Option, length-append, map, refl}
-use Rattle.enforcer_core.proofs.Vocabulary.{sym, subst, arith, All-nil, none_in_nil, Event, NameId, Step, IsUpToTimeOf}
-use Rattle.enforcer_core.proofs.Vocabulary.{AreUpToTimeOf, OperatorState, plan_of, guard_triggers, PendingAfter}
-use Rattle.enforcer_core.proofs.Vocabulary.{Instance, Decides, ActsFrom, is_inserted, AllSleep, Action, IsIdle}
+use Rattle.enforcer_core.proofs.Vocabulary.{Contains, List, [], ◌∷◌, ◌++◌, Option, length-append, map, refl, sym, subst, arith, All-nil, none_in_nil, Event, NameId, Step, IsUpToTimeOf, AreUpToTimeOf}
+use Rattle.enforcer_core.proofs.Vocabulary.{OperatorState, plan_of, waking_names, PendingAfter, placed_guard, Instance, Decides, ActsFrom, is_inserted, AllSleep, Action, IsIdle}
 use Rattle.enforcer_core.proofs.step_memory.Remembered.decide.Goals as goal
 
 pub returns-then-is_idle-clause-decided : goal.returns-then-is_idle-clause-decided
@@ -9,12 +7,12 @@ returns-then-is_idle-clause-decided c =
     let plans = map plan_of c.args.plans.now in
     let before = c.args.self.now in
     let idle : IsIdle c.args.facts.now.wakes c.args.self.now c.as_slice.result.now = c.is_idle.ensures c.if-is_idle.true in
-    let asleep : AllSleep (map guard_triggers (map plan_of c.args.plans.now)) c.args.events =
-    subst (λ (l : List Event). AllSleep (map guard_triggers (map plan_of c.args.plans.now)) l) c.as_slice.ensures.events
+    let asleep : AllSleep (map waking_names (map plan_of c.args.plans.now)) c.args.events =
+    subst (λ (l : List Event). AllSleep (map waking_names (map plan_of c.args.plans.now)) l) c.as_slice.ensures.events
     (subst (λ (w : List (Option (List NameId))). AllSleep w c.as_slice.result.now) c.requires.facts.wakes idle.asleep) in
     let goes : (trace : List Step) → PendingAfter plans (trace ++ record { time = c.args.time; events = c.args.events } ∷ []) before.pending.instances before.pending.instances = λ trace.
     subst (λ (l : List Instance). PendingAfter (map plan_of c.args.plans.now) (trace ++ record { time = c.args.time; events = c.args.events } ∷ []) l l) (sym idle.pending)
-    (c.asleep_is_idle.ensures.goes (map plan_of c.args.plans.now) trace c.args.time c.args.events asleep) in
+    (c.asleep_is_idle.ensures.goes (map placed_guard before.past.guards) (map plan_of c.args.plans.now) trace c.args.time c.args.events c.requires.can.asked.roots asleep) in
     record {
       kind_is = refl;
       time_is = refl;
@@ -34,7 +32,7 @@ returns-then-is_idle-clause-decided c =
             c.args.self.now.pending.instances (is_inserted c.args.kind) c.args.time c.args.events l c.args.events)
             (sym c.new.ensures)
             (subst (λ (l : List Instance). Decides (map plan_of c.args.plans.now) trace l (is_inserted c.args.kind) c.args.time c.args.events [] c.args.events) (sym idle.pending)
-            (c.asleep_is_idle.ensures.decides (map plan_of c.args.plans.now) trace (is_inserted c.args.kind) c.args.time c.args.events asleep));
+            (c.asleep_is_idle.ensures.decides (map placed_guard before.past.guards) (map plan_of c.args.plans.now) trace (is_inserted c.args.kind) c.args.time c.args.events c.requires.can.asked.roots asleep));
       };
       goes = λ trace remembers later. goes trace;
       remembers = λ trace remembers later.

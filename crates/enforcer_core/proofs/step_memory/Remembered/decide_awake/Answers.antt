@@ -1,7 +1,5 @@
-use Rattle.enforcer_core.proofs.Vocabulary.{◌≡◌, ◌≤◌, ◌∙◌, ap, List, [], ◌∷◌, ◌++◌}
-use Rattle.enforcer_core.proofs.Vocabulary.{length-append, map, refl, sym, subst, arith, Step, last_time}
-use Rattle.enforcer_core.proofs.Vocabulary.{AreTablesAtStep, CommittedWillStand, Past, plan_of, placed_guard, LeadsAt}
-use Rattle.enforcer_core.proofs.Vocabulary.{PendingAfter, Decides, RemembersTrace}
+use Rattle.enforcer_core.proofs.Vocabulary.{◌≡◌, ◌≤◌, ◌∙◌, ap, List, [], ◌∷◌, ◌++◌, length-append, map, refl, sym, subst, arith, Step, last_time, AreTablesAtStep, CommittedWillStand, Past, plan_of}
+use Rattle.enforcer_core.proofs.Vocabulary.{placed_guard, LeadsAt, PendingAfter, Decides, RemembersTrace}
 use Rattle.enforcer_core.proofs.ForcedInstanceLemmas.{are_served}
 use Rattle.enforcer_core.proofs.step_memory.Remembered.decide_awake.Goals as goal
 

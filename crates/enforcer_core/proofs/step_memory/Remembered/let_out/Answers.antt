@@ -1,7 +1,5 @@
-use Rattle.enforcer_core.proofs.Vocabulary.{◌≡◌, ◌∙◌, ℕ, ◌≤◌, Bool, false, List, [], Contains}
-use Rattle.enforcer_core.proofs.Vocabulary.{Option, Some, None, is_some, map, sym, subst, true≢false, MOST_HORIZON}
-use Rattle.enforcer_core.proofs.Vocabulary.{StepRecord, System, plan_of, WorkTogether, typed_of, IsPassed, acted_steps}
-use Rattle.enforcer_core.proofs.Vocabulary.{enforcing_at, IsLeastPassed, LetsOut, NoneIsLeft, CanDecideAt, IsDecided}
+use Rattle.enforcer_core.proofs.Vocabulary.{◌≡◌, ◌∙◌, ℕ, ◌≤◌, Bool, false, List, [], Contains, Option, Some, None, is_some, map, sym, subst, true≢false, MOST_HORIZON, StepRecord, System, plan_of}
+use Rattle.enforcer_core.proofs.Vocabulary.{WorkTogether, typed_of, IsPassed, acted_steps, enforcing_at, IsLeastPassed, LetsOut, NoneIsLeft, CanDecideAt, IsDecided}
 use Rattle.plan_terms.specs.declared.plans.Plan.{Plan as StoredPlan}
 use Rattle.enforcer_core.proofs.RecordLemmas.{step_out}
 use Rattle.enforcer_core.proofs.PassedDeadlineLemmas.{passes_none}

@@ -1,6 +1,5 @@
-use Rattle.enforcer_core.proofs.Vocabulary.{ℕ, ◌≤◌, List, map, sym, subst, MOST_HORIZON, StepRecord, System}
-use Rattle.enforcer_core.proofs.Vocabulary.{plan_of, WorkTogether, typed_of, ActedStep, acted_steps, enforcing_at}
-use Rattle.enforcer_core.proofs.Vocabulary.{LetsOut, CanDecideAt, IsDecided}
+use Rattle.enforcer_core.proofs.Vocabulary.{ℕ, ◌≤◌, List, map, sym, subst, MOST_HORIZON, StepRecord, System, plan_of, WorkTogether, typed_of, ActedStep, acted_steps, enforcing_at, LetsOut}
+use Rattle.enforcer_core.proofs.Vocabulary.{CanDecideAt, IsDecided}
 use Rattle.plan_terms.specs.declared.plans.Plan.{Plan as StoredPlan}
 use Rattle.enforcer_core.proofs.RecordLemmas.{step_out}
 use Rattle.enforcer_core.proofs.PassedDeadlineLemmas.{acted_more}

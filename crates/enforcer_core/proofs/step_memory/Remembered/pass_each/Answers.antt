@@ -1,11 +1,8 @@
-use Rattle.enforcer_core.proofs.Vocabulary.{◌+◌, ◌-◌, ◌<◌, ◌≤◌, List, [], ◌∷◌, Contains, map}
-use Rattle.enforcer_core.proofs.Vocabulary.{sym, subst, arith, Event, MOST_TIME, Inserted, plan_of, WorkTogether}
-use Rattle.enforcer_core.proofs.Vocabulary.{typed_of, ActedStep, acted_step, acted_steps, enforcing_at, PassesDeadlines}
-use Rattle.enforcer_core.proofs.Vocabulary.{CanDecideAt, IsDecided, Remembered, length, ◌≡◌}
+use Rattle.enforcer_core.proofs.Vocabulary.{◌+◌, ◌-◌, ◌<◌, ◌≤◌, List, [], ◌∷◌, Contains, map, sym, subst, arith, Event, MOST_TIME, Inserted, plan_of, WorkTogether, typed_of, ActedStep, acted_step}
+use Rattle.enforcer_core.proofs.Vocabulary.{acted_steps, enforcing_at, PassesDeadlines, CanDecideAt, IsDecided, Remembered, length, ◌≡◌}
 use Rattle.enforcer_core.proofs.FewStepLemmas.{passed_are_few}
 use Rattle.plan_terms.specs.declared.plans.Plan.{Plan as StoredPlan}
-use Rattle.enforcer_core.proofs.PassedDeadlineLemmas.{acted_more, not_before, on_err, passes_join, passes_one}
-use Rattle.enforcer_core.proofs.PassedDeadlineLemmas.{within_most}
+use Rattle.enforcer_core.proofs.PassedDeadlineLemmas.{acted_more, not_before, on_err, passes_join, passes_one, within_most}
 use Rattle.enforcer_core.specs.declared.steps.OutStep as made
 use Rattle.enforcer_core.proofs.step_memory.Remembered.pass_each.Goals as goal
 

@@ -1,5 +1,4 @@
-use Rattle.enforcer_core.proofs.Vocabulary.{◌≡◌, ◌+◌, ◌-◌, MOST_TIME, acted_steps, enforcing_at}
-use Rattle.enforcer_core.proofs.Vocabulary.{NoneIsLeft, PassesDeadlines}
+use Rattle.enforcer_core.proofs.Vocabulary.{◌≡◌, ◌+◌, ◌-◌, MOST_TIME, acted_steps, enforcing_at, NoneIsLeft, PassesDeadlines}
 use Rattle.enforcer_core.proofs.step_memory.Remembered.pass_each.Given as goal
 
 abbrev pub invariant-loop-deadline : goal.invariant-loop-deadline

@@ -1,6 +1,4 @@
-use Rattle.enforcer_core.proofs.Vocabulary.{◌≡◌, Contains, List, [], ◌∷◌, ◌++◌, map, sym, subst}
-use Rattle.enforcer_core.proofs.Vocabulary.{◌∙◌, OnOk, none_in_nil, Event, Step, placed_guard, LeadsAt}
-use Rattle.enforcer_core.proofs.Vocabulary.{PendingAfter, Instance, plan_of}
+use Rattle.enforcer_core.proofs.Vocabulary.{◌≡◌, Contains, List, [], ◌∷◌, ◌++◌, map, sym, subst, ◌∙◌, OnOk, none_in_nil, Event, Step, placed_guard, LeadsAt, PendingAfter, Instance, plan_of}
 use Rattle.enforcer_core.proofs.step_memory.Remembered.progress.Goals as goal
 
 pub returns-then-looks_at_now-clause-goes : goal.returns-then-looks_at_now-clause-goes

@@ -1,5 +1,4 @@
-use Rattle.enforcer_core.proofs.Vocabulary.{List, [], ◌∷◌, ◌++◌, map, sym, subst, on_ok_weaker, Event}
-use Rattle.enforcer_core.proofs.Vocabulary.{AreServed, PendingAfter, GuardsWillHold, plan_of}
+use Rattle.enforcer_core.proofs.Vocabulary.{List, [], ◌∷◌, ◌++◌, map, sym, subst, on_ok_weaker, Event, AreServed, PendingAfter, GuardsWillHold, plan_of}
 use Rattle.enforcer_core.proofs.step_memory.Remembered.progress_over.Goals as goal
 
 pub returns-clause-goes : goal.returns-clause-goes

@@ -1,6 +1,5 @@
-use Rattle.formula_reader.proofs.Vocabulary.{◌++◌, ◌∷◌, [], Bool, OnErr, sym, subst, ◌∙◌, AppendsPart}
-use Rattle.formula_reader.proofs.Vocabulary.{on_err_from, part_none, part_first, part_behind, part_last, enclosed_text}
-use Rattle.formula_reader.proofs.Vocabulary.{formula_text, separated_text, operand_text, operator_text, variable_text}
+use Rattle.formula_reader.proofs.Vocabulary.{◌++◌, ◌∷◌, [], Bool, OnErr, sym, subst, ◌∙◌, AppendsPart, on_err_from, part_none, part_first, part_behind, part_last, enclosed_text, formula_text}
+use Rattle.formula_reader.proofs.Vocabulary.{separated_text, operand_text, operator_text, variable_text}
 use Rattle.enf_formula.specs.machine.FormulaViews as tree
 use Rattle.formula_reader.proofs.printing.Printer.+printing.Goals as goal
 

@@ -1,5 +1,4 @@
-use Rattle.formula_reader.proofs.Vocabulary.{◌++◌, ◌∷◌, [], on_err_from, part_first, part_behind, part_last}
-use Rattle.formula_reader.proofs.Vocabulary.{none_last, name_text, separated_text, term_text}
+use Rattle.formula_reader.proofs.Vocabulary.{◌++◌, ◌∷◌, [], on_err_from, part_first, part_behind, part_last, none_last, name_text, separated_text, term_text}
 use Rattle.formula_reader.proofs.printing.Printer.print_atom.Goals as goal
 
 pub returns-in_err-print_terms-clause-err : goal.returns-in_err-print_terms-clause-err

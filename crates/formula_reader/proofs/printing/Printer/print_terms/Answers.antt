@@ -1,5 +1,4 @@
-use Rattle.formula_reader.proofs.Vocabulary.{◌-◌, ◌∷◌, [], drop, length, take, ◌+◌, on_err_from}
-use Rattle.formula_reader.proofs.Vocabulary.{drop_at_item, term_text}
+use Rattle.formula_reader.proofs.Vocabulary.{◌-◌, ◌∷◌, [], drop, length, take, ◌+◌, on_err_from, drop_at_item, term_text}
 use Rattle.formula_reader.proofs.TextFronts.{first_part, separator_part, item_part}
 use Rattle.formula_reader.proofs.printing.Printer.print_terms.Goals as goal
 

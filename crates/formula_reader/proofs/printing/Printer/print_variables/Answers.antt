@@ -1,5 +1,4 @@
-use Rattle.formula_reader.proofs.Vocabulary.{◌-◌, ◌∷◌, [], drop, length, take, get_or, suc, refl, drop-cons}
-use Rattle.formula_reader.proofs.Vocabulary.{on_err_from, part_none, variable_text, variable_numbered}
+use Rattle.formula_reader.proofs.Vocabulary.{◌-◌, ◌∷◌, [], drop, length, take, get_or, suc, refl, drop-cons, on_err_from, part_none, variable_text, variable_numbered}
 use Rattle.formula_reader.proofs.TextFronts.{separator_part, item_part}
 use Rattle.formula_reader.proofs.printing.Printer.print_variables.Goals as goal
 

@@ -1,5 +1,4 @@
-use Rattle.formula_reader.proofs.Vocabulary.{◌≡◌, ◌++◌, length, drop, pass, binder_points, binding_names}
-use Rattle.formula_reader.proofs.Vocabulary.{bound_variables_from}
+use Rattle.formula_reader.proofs.Vocabulary.{◌≡◌, ◌++◌, length, drop, pass, binder_points, binding_names, bound_variables_from}
 use Rattle.formula_reader.proofs.resolving.Resolver.bind_all.Given as goal
 
 abbrev pub invariant-loop-binding : goal.invariant-loop-binding

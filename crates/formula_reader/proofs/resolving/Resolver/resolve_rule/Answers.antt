@@ -1,5 +1,4 @@
-use Rattle.formula_reader.proofs.Vocabulary.{rules, ◌≡◌, ◌≢◌, Some, policy_rule_of as syntax_rule_of}
-use Rattle.formula_reader.proofs.Vocabulary.{rule_refusal, NoMemory as OutOfMemory}
+use Rattle.formula_reader.proofs.Vocabulary.{rules, ◌≡◌, ◌≢◌, Some, policy_rule_of as syntax_rule_of, rule_refusal, NoMemory as OutOfMemory}
 use Rattle.formula_reader.proofs.PassedRules.{rule_passes, rule_refuses}
 use Rattle.formula_reader.proofs.resolving.Resolver.resolve_rule.Goals as goal
 

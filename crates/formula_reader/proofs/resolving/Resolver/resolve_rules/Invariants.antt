@@ -1,5 +1,4 @@
-use Rattle.formula_reader.proofs.Vocabulary.{◌≡◌, ◌++◌, drop, map, option_map}
-use Rattle.formula_reader.proofs.Vocabulary.{policy_rule_of as syntax_rule_of, rule_of, rules_in, policy_refusal}
+use Rattle.formula_reader.proofs.Vocabulary.{◌≡◌, ◌++◌, drop, map, option_map, policy_rule_of as syntax_rule_of, rule_of, rules_in, policy_refusal}
 use Rattle.formula_reader.proofs.resolving.Resolver.resolve_rules.Given as goal
 
 abbrev pub invariant-loop-rule : goal.invariant-loop-rule

@@ -1,5 +1,4 @@
-use Rattle.log_stream.proofs.Vocabulary.{List, ℕ, None, ◌≡◌, ◌≤◌, inr, refl, sym, subst, length, arith}
-use Rattle.log_stream.proofs.Vocabulary.{IsPending, IsLogGap, Reader}
+use Rattle.log_stream.proofs.Vocabulary.{List, ℕ, None, ◌≡◌, ◌≤◌, inr, refl, sym, subst, length, arith, IsPending, IsLogGap, Reader}
 use Rattle.log_stream.proofs.ReaderCalls.{nothing_left, truncated_at}
 use Rattle.log_stream.proofs.RestFronts.{begins_at}
 use Rattle.log_stream.proofs.reader.LogReader.end.Goals as goal

@@ -1,5 +1,4 @@
-use Rattle.log_stream.proofs.Vocabulary.{List, ℕ, ◌-◌, sym, subst, take, drop, Option, Ok, Err, arith, Reader}
-use Rattle.log_stream.proofs.Vocabulary.{ReadsNext, FindsFront, lasting, Item, LogRefusal, ReadsFront, Pending, Whole}
+use Rattle.log_stream.proofs.Vocabulary.{List, ℕ, ◌-◌, sym, subst, take, drop, Option, Ok, Err, arith, Reader, ReadsNext, FindsFront, lasting, Item, LogRefusal, ReadsFront, Pending, Whole}
 use Rattle.log_stream.proofs.ReaderCalls.{item_alone, item_read, pending_kept, reader_at, refusal_kept, refusal_read}
 use Rattle.log_stream.proofs.RestFronts.{whole_alone}
 use Rattle.log_stream.proofs.reader.LogReader.found.Goals as goal

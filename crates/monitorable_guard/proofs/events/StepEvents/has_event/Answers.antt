@@ -1,5 +1,4 @@
-use Rattle.monitorable_guard.proofs.Vocabulary.{rules, length, map, subst, always_returns_same, IsSearchInRange}
-use Rattle.monitorable_guard.proofs.Vocabulary.{IsBinarySearchResult, value_of_term, IsByName, listed}
+use Rattle.monitorable_guard.proofs.Vocabulary.{rules, length, map, subst, always_returns_same, IsSearchInRange, IsBinarySearchResult, value_of_term, IsByName, listed}
 use Rattle.monitorable_guard.proofs.EventLemmas.{search_key, search_cmp, found_event}
 use Rattle.monitorable_guard.proofs.events.StepEvents.has_event.Goals as goal
 

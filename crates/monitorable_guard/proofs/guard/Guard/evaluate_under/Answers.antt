@@ -1,6 +1,4 @@
-use Rattle.monitorable_guard.proofs.Vocabulary.{IfOk, sym, subst, ◌∙◌, tree_of, bound_in, valuation_part}
-use Rattle.monitorable_guard.proofs.Vocabulary.{IsPartOfValuation, part_is, AreOpenUnder, CanAskFormula, HasAnswers}
-use Rattle.monitorable_guard.proofs.Vocabulary.{AreOpen}
+use Rattle.monitorable_guard.proofs.Vocabulary.{IfOk, sym, subst, ◌∙◌, tree_of, bound_in, valuation_part, IsPartOfValuation, part_is, AreOpenUnder, CanAskFormula, HasAnswers, AreOpen}
 use Rattle.monitorable_guard.proofs.GuardLemmas.{can_ask, opens_under, ok_columns, ok_rows}
 use Rattle.monitorable_guard.proofs.KnownNow.{ok_known}
 use Rattle.monitorable_guard.proofs.guard.Guard.evaluate_under.Goals as goal

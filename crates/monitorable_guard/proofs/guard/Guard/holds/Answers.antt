@@ -1,6 +1,4 @@
-use Rattle.monitorable_guard.proofs.Vocabulary.{◌↔◌, IfOk, IsTrue, sym, subst, ◌∙◌, tree_of, bound_in}
-use Rattle.monitorable_guard.proofs.Vocabulary.{valuation_part, IsPartOfValuation, part_is, CanAskFormula, IsBoundBy}
-use Rattle.monitorable_guard.proofs.Vocabulary.{HoldsNow, FreeWithin}
+use Rattle.monitorable_guard.proofs.Vocabulary.{◌↔◌, IfOk, IsTrue, sym, subst, ◌∙◌, tree_of, bound_in, valuation_part, IsPartOfValuation, part_is, CanAskFormula, IsBoundBy, HoldsNow, FreeWithin}
 use Rattle.monitorable_guard.proofs.GuardLemmas.{can_ask, closed, ok_holds}
 use Rattle.monitorable_guard.proofs.guard.Guard.holds.Goals as goal
 

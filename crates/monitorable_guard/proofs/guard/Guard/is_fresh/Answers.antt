@@ -1,5 +1,4 @@
-use Rattle.monitorable_guard.proofs.Vocabulary.{sym, subst, ◌∙◌, Contains, IsTrue, IfOk, ◌↔◌, ◌⊎◌}
-use Rattle.monitorable_guard.proofs.Vocabulary.{VarId, tree_of, IsFree, BindsFresh, BoundOrFreeIn}
+use Rattle.monitorable_guard.proofs.Vocabulary.{sym, subst, ◌∙◌, Contains, IsTrue, IfOk, ◌↔◌, ◌⊎◌, VarId, tree_of, IsFree, BindsFresh, BoundOrFreeIn}
 use Rattle.monitorable_guard.proofs.ConditionLemmas.{fresh_alike}
 use Rattle.monitorable_guard.proofs.DecisionLemmas.{decides_alike}
 use Rattle.monitorable_guard.proofs.guard.Guard.is_fresh.Goals as goal

@@ -1,6 +1,5 @@
-use Rattle.monitorable_guard.proofs.Vocabulary.{◌≡◌, List, map, sym, subst, ◌∙◌, HasNoRepeats}
-use Rattle.monitorable_guard.proofs.Vocabulary.{rising_distinct, Valuation, variable_cmp_total, Term, Var, tree_of}
-use Rattle.monitorable_guard.proofs.Vocabulary.{Relation, HasKnownValues, AreHoldingRows}
+use Rattle.monitorable_guard.proofs.Vocabulary.{◌≡◌, List, map, sym, subst, ◌∙◌, HasNoRepeats, rising_distinct, Valuation, variable_cmp_total, Term, Var, tree_of, Relation, HasKnownValues}
+use Rattle.monitorable_guard.proofs.Vocabulary.{AreHoldingRows}
 use Rattle.monitorable_guard.proofs.EventRowLemmas.{some_is, told_hold, told_known, told_rows}
 use Rattle.monitorable_guard.proofs.guard.Guard.told_by.Goals as goal
 

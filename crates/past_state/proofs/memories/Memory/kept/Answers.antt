@@ -1,5 +1,4 @@
-use Rattle.past_state.proofs.Vocabulary.{◌↔◌, Contains, sym, subst, IfOk-weaker, AreKeepable, ArePairsOf}
-use Rattle.past_state.proofs.Vocabulary.{StoresFor}
+use Rattle.past_state.proofs.Vocabulary.{◌↔◌, Contains, sym, subst, IfOk-weaker, AreKeepable, ArePairsOf, StoresFor}
 use Rattle.past_state.proofs.memories.Memory.kept.Goals as goal
 
 pub returns-in-Once-clause-rising : goal.returns-in-Once-clause-rising

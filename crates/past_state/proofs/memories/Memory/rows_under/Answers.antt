@@ -1,5 +1,4 @@
-use Rattle.past_state.proofs.Vocabulary.{◌↔◌, sym, subst, IfOk-weaker, AgreesWhereBound, HasValuation}
-use Rattle.past_state.proofs.Vocabulary.{given_last_answers, LastFits, FitMemory, memory_given}
+use Rattle.past_state.proofs.Vocabulary.{◌↔◌, sym, subst, IfOk-weaker, AgreesWhereBound, HasValuation, given_last_answers, LastFits, FitMemory, memory_given}
 use Rattle.past_state.proofs.LazyTableLemmas.{window_rows}
 use Rattle.past_state.proofs.memories.Memory.rows_under.Goals as goal
 

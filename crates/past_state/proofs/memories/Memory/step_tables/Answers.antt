@@ -1,5 +1,4 @@
-use Rattle.past_state.proofs.Vocabulary.{◌↔◌, drop, sym, refl, subst, tree_of, FitOperators, HoldsNow, outermost}
-use Rattle.past_state.proofs.Vocabulary.{CanStep, AreStepTables, AllComeFrom, Valuation, BindsColumns, HasValuation}
+use Rattle.past_state.proofs.Vocabulary.{◌↔◌, drop, sym, refl, subst, tree_of, FitOperators, HoldsNow, outermost, CanStep, AreStepTables, AllComeFrom, Valuation, BindsColumns, HasValuation}
 use Rattle.past_state.proofs.ColumnLemmas.{answers_all}
 use Rattle.past_state.specs.declared.survivors.Survivors.TheVariants as told
 use Rattle.past_state.proofs.memories.Memory.step_tables.Goals as goal

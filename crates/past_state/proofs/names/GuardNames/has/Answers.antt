@@ -1,6 +1,5 @@
-use Rattle.past_state.proofs.Vocabulary.{rules, ◌↔◌, IsTrue, is_ok, Contains, length, refl, subst}
-use Rattle.past_state.proofs.Vocabulary.{always_returns_same, nat_cmp_total, nat_cmp-IsAntisymmetric, IsSearchInRange}
-use Rattle.past_state.proofs.Vocabulary.{IsBinarySearchResult, nat_cmp, NameId, same_name, found_tells}
+use Rattle.past_state.proofs.Vocabulary.{rules, ◌↔◌, IsTrue, is_ok, Contains, length, refl, subst, always_returns_same, nat_cmp_total, nat_cmp-IsAntisymmetric, IsSearchInRange, IsBinarySearchResult}
+use Rattle.past_state.proofs.Vocabulary.{nat_cmp, NameId, same_name, found_tells}
 use Rattle.past_state.proofs.names.GuardNames.has.Goals as goal
 
 pub returns : goal.returns

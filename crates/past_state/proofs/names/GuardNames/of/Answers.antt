@@ -1,5 +1,4 @@
-use Rattle.past_state.proofs.Vocabulary.{rules, Contains, sym, subst, always_returns_same, Contains-permutation}
-use Rattle.past_state.proofs.Vocabulary.{IsPermutation-sym, NameId}
+use Rattle.past_state.proofs.Vocabulary.{rules, Contains, sym, subst, always_returns_same, Contains-permutation, IsPermutation-sym, NameId}
 use Rattle.past_state.proofs.names.GuardNames.of.Goals as goal
 
 pub invariant_of-result : goal.invariant_of-result

@@ -1,5 +1,4 @@
-use Rattle.past_state.proofs.Vocabulary.{◌≡◌, ◌↔◌, ◌<◌, IsTrue, drop, get_or, length, sym, subst}
-use Rattle.past_state.proofs.Vocabulary.{FirstHas, tables_at, memory_given}
+use Rattle.past_state.proofs.Vocabulary.{◌≡◌, ◌↔◌, ◌<◌, IsTrue, drop, get_or, length, sym, subst, FirstHas, tables_at, memory_given}
 use Rattle.past_state.proofs.LazyTableLemmas.{first_has, first_is}
 use Rattle.past_state.proofs.operator_answers.LazyTablesPast.has.Goals as goal
 

@@ -1,5 +1,4 @@
-use Rattle.past_state.proofs.Vocabulary.{◌≡◌, ◌<◌, IfOk, drop, get_or, length, sym, subst, ok_both}
-use Rattle.past_state.proofs.Vocabulary.{FirstGivesUnder, tables_at, memory_given}
+use Rattle.past_state.proofs.Vocabulary.{◌≡◌, ◌<◌, IfOk, drop, get_or, length, sym, subst, ok_both, FirstGivesUnder, tables_at, memory_given}
 use Rattle.past_state.proofs.LazyTableLemmas.{first_gives, first_is}
 use Rattle.past_state.proofs.operator_answers.LazyTablesPast.rows_under.Goals as goal
 

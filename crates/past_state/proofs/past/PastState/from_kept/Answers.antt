@@ -1,12 +1,10 @@
-use Rattle.past_state.proofs.Vocabulary.{◌∙◌, ◌↔◌, All, Contains, ap, sym, subst, map, reverse, arith}
-use Rattle.past_state.proofs.Vocabulary.{tree_in, all_operators, IsPast, formulas_of_guards, guard_names, IsAtLast}
-use Rattle.past_state.proofs.Vocabulary.{AllStand, AreUpToTimeOf, StoresAt, KeptRow}
+use Rattle.past_state.proofs.Vocabulary.{◌∙◌, ◌↔◌, All, Contains, ap, sym, subst, map, reverse, arith, tree_in, all_operators, IsPast, formulas_of_guards, guard_names, IsAtLast, AllStand}
+use Rattle.past_state.proofs.Vocabulary.{AreUpToTimeOf, StoresAt, KeptRow}
 use Rattle.past_state.proofs.GuardLaws.{copies_formulas}
 use Rattle.past_state.proofs.GuardLemmas.{few_outermost, new_past}
 use Rattle.past_state.proofs.PastLemmas.{still_past}
 use Rattle.past_state.proofs.RestoredLemmas.{made_stands}
-use Rattle.past_state.proofs.RestoredRowLemmas.{at_last, can_restore, pushed_for, from_start, none_later, rows_exact}
-use Rattle.past_state.proofs.RestoredRowLemmas.{rows_within, same_kinds}
+use Rattle.past_state.proofs.RestoredRowLemmas.{at_last, can_restore, pushed_for, from_start, none_later, rows_exact, rows_within, same_kinds}
 use Rattle.past_state.proofs.past.PastState.from_kept.Goals as goal
 
 pub restore_each-requires : goal.restore_each-requires

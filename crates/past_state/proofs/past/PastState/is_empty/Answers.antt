@@ -1,6 +1,5 @@
-use Rattle.past_state.proofs.Vocabulary.{◌≡◌, ◌∙◌, List, [], ◌∷◌, arith, length, reverse, subst, sym}
-use Rattle.past_state.proofs.Vocabulary.{vec_len, eqb-true, Step, Formula, all_operators, PastStands}
-use Rattle.past_state.proofs.Vocabulary.{formulas_of_guards, AllStand, AreFor, OperatorState}
+use Rattle.past_state.proofs.Vocabulary.{◌≡◌, ◌∙◌, List, [], ◌∷◌, arith, length, reverse, subst, sym, vec_len, eqb-true, Step, Formula, all_operators, PastStands, formulas_of_guards, AllStand, AreFor}
+use Rattle.past_state.proofs.Vocabulary.{OperatorState}
 use Rattle.past_state.proofs.past.PastState.is_empty.Goals as goal
 
 -- where nothing is kept, there is nothing to stand for

@@ -1,7 +1,5 @@
-use Rattle.past_state.proofs.Vocabulary.{◌∙◌, ◌<◌, length, ap, sym, subst, arith, formulas_of_guards}
-use Rattle.past_state.proofs.Vocabulary.{all_operators, AreRowsKept, AreStoredRows}
-use Rattle.past_state.proofs.SavedLemmas.{SavedUpTo, counted, counted_back, kept_of_trace, rows_of, saved_more}
-use Rattle.past_state.proofs.SavedLemmas.{saved_none}
+use Rattle.past_state.proofs.Vocabulary.{◌∙◌, ◌<◌, length, ap, sym, subst, arith, formulas_of_guards, all_operators, AreRowsKept, AreStoredRows}
+use Rattle.past_state.proofs.SavedLemmas.{SavedUpTo, counted, counted_back, kept_of_trace, rows_of, saved_more, saved_none}
 use Rattle.past_state.proofs.past.PastState.kept.Goals as goal
 
 pub loop-window-init : goal.loop-window-init

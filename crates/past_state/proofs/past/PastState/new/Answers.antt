@@ -1,5 +1,4 @@
-use Rattle.past_state.proofs.Vocabulary.{ℕ, [], None, IfOk, map, refl, subst, IfOk-weaker, tree_in, all_operators}
-use Rattle.past_state.proofs.Vocabulary.{PastStands, IsUpToLast, WillStandFor, AreUpToTimeOf, AreStoredRows}
+use Rattle.past_state.proofs.Vocabulary.{ℕ, [], None, IfOk, map, refl, subst, IfOk-weaker, tree_in, all_operators, PastStands, IsUpToLast, WillStandFor, AreUpToTimeOf, AreStoredRows}
 use Rattle.past_state.proofs.BoundsLemmas.{kept_of_nothing}
 use Rattle.past_state.proofs.past.PastState.new.Goals as goal
 

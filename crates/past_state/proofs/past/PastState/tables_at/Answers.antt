@@ -1,5 +1,4 @@
-use Rattle.past_state.proofs.Vocabulary.{◌∙◌, [], sym, subst, ap, CanAskEach, tables_at, IsPast, AreMadeOf}
-use Rattle.past_state.proofs.Vocabulary.{AreTablesAtStep, AreOrderedOperators, Runs}
+use Rattle.past_state.proofs.Vocabulary.{◌∙◌, [], sym, subst, ap, CanAskEach, tables_at, IsPast, AreMadeOf, AreTablesAtStep, AreOrderedOperators, Runs}
 use Rattle.past_state.proofs.PastLemmas.{guards_hold, just_made, ordered, tables_are}
 use Rattle.past_state.proofs.past.PastState.tables_at.Goals as goal
 

@@ -1,5 +1,4 @@
-use Rattle.past_state.proofs.Vocabulary.{◌∙◌, ap, subst, IfOk-weaker, bound_in, ArePastTables, IsEvaluated}
-use Rattle.past_state.proofs.Vocabulary.{IsSatisfied}
+use Rattle.past_state.proofs.Vocabulary.{◌∙◌, ap, subst, IfOk-weaker, bound_in, ArePastTables, IsEvaluated, IsSatisfied}
 use Rattle.past_state.proofs.PastLemmas.{asked, enough_asked, can_evaluate, is_evaluated, is_satisfied, test_of}
 use Rattle.past_state.proofs.past.Tables.holds_under.Goals as goal
 

@@ -1,5 +1,4 @@
-use Rattle.past_state.proofs.Vocabulary.{◌∙◌, ap, subst, IfOk-weaker, ok_both, bound_in, IsKnownOfGuard}
-use Rattle.past_state.proofs.Vocabulary.{ArePastTables, AreEvaluated, AreSatisfied, HasOpenColumns}
+use Rattle.past_state.proofs.Vocabulary.{◌∙◌, ap, subst, IfOk-weaker, ok_both, bound_in, IsKnownOfGuard, ArePastTables, AreEvaluated, AreSatisfied, HasOpenColumns}
 use Rattle.past_state.proofs.PastLemmas.{asked, enough_asked, can_evaluate, are_evaluated, are_open, are_satisfied}
 use Rattle.past_state.proofs.KnownLemmas.{known_of_guard}
 use Rattle.past_state.proofs.past.Tables.rows_under.Goals as goal

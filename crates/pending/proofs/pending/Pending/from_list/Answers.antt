@@ -1,5 +1,4 @@
-use Rattle.pending.proofs.Vocabulary.{◌≡◌, ◌∙◌, [], ap, map, subst, sym, count_entries, plan_of, items_of}
-use Rattle.pending.proofs.Vocabulary.{waits_of, wake_patterns_of}
+use Rattle.pending.proofs.Vocabulary.{◌≡◌, ◌∙◌, [], ap, map, subst, sym, count_entries, plan_of, items_of, waits_of, wake_patterns_of}
 use Rattle.pending.proofs.EntryLemmas.{entries_items, entries_wait}
 use Rattle.pending.proofs.pending.Pending.from_list.Goals as goal
 

@@ -1,5 +1,4 @@
-use Rattle.pending.proofs.Vocabulary.{◌∙◌, ap, map, sym, count_by, held_deadlines, count_due, items_of, waits_of}
-use Rattle.pending.proofs.Vocabulary.{wake_patterns_of}
+use Rattle.pending.proofs.Vocabulary.{◌∙◌, ap, map, sym, count_by, held_deadlines, count_due, items_of, waits_of, wake_patterns_of}
 use Rattle.std.specs.Prelude.{◌==◌}
 use Rattle.pending.proofs.pending.Pending.new.Goals as goal
 

@@ -1,5 +1,4 @@
-use Rattle.pending.proofs.Vocabulary.{◌+◌, ◌∙◌, map, subst, sym, on_ok_weaker, AllByRecursion, on_ok_both}
-use Rattle.pending.proofs.Vocabulary.{count_entries, plan_of, guards_at, CanAskOf, ArePendingEntries, IsPendingListOf}
+use Rattle.pending.proofs.Vocabulary.{◌+◌, ◌∙◌, map, subst, sym, on_ok_weaker, AllByRecursion, on_ok_both, count_entries, plan_of, guards_at, CanAskOf, ArePendingEntries, IsPendingListOf}
 use Rattle.pending.proofs.ProgressLemmas.{asked_behind, can_put, fit_next, goes, kept_later, leads, waits_behind}
 use Rattle.pending.proofs.pending.Pending.progress.Goals as goal
 

@@ -1,5 +1,4 @@
-use Rattle.pending.proofs.Vocabulary.{ap, subst, subst₂, sym, ◌≡◌, ◌∙◌, IfOk-weaker, AllButThose, shown}
-use Rattle.pending.proofs.Vocabulary.{items_of, IsPendingListOf, SleepsAt}
+use Rattle.pending.proofs.Vocabulary.{ap, subst, subst₂, sym, ◌≡◌, ◌∙◌, IfOk-weaker, AllButThose, shown, items_of, IsPendingListOf, SleepsAt}
 use Rattle.pending.proofs.PendingListLemmas.{items_but}
 use Rattle.pending.proofs.pending.Pending.woken.Goals as goal
 

@@ -1,6 +1,4 @@
-use Rattle.plan_terms.proofs.Vocabulary.{◌≡◌, false, nat_eq, Option, Some, None, ⊎_elim, ne_eqb, sym, ap, subst}
-use Rattle.plan_terms.proofs.Vocabulary.{◌∙◌, find, option_copied, option_map, Plan, nodes, has_number}
-use Rattle.plan_terms.proofs.Vocabulary.{node_number, plan_of}
+use Rattle.plan_terms.proofs.Vocabulary.{◌≡◌, false, nat_eq, Option, Some, None, ⊎_elim, ne_eqb, sym, ap, subst, ◌∙◌, find, option_copied, option_map, Plan, nodes, has_number, node_number, plan_of}
 use Rattle.plan_terms.specs.declared.plans.Plan.{Plan as Stored}
 use Rattle.plan_terms.proofs.NodeSearch.{in_first, in_second}
 use Rattle.plan_terms.proofs.plans.Plan.+at.Goals as goal

@@ -1,11 +1,8 @@
-use Rattle.policy_syntax.proofs.Vocabulary.{◌≤◌, List, [], ◌∷◌, sym, subst, ap, ◌∙◌, BehindName}
-use Rattle.policy_syntax.proofs.Vocabulary.{FirstArgument, stack_item, Ahead, Symbol, next_lexeme, IsLexemeTaken}
-use Rattle.policy_syntax.proofs.Vocabulary.{ArgumentsRead, TermsRead, CloseParen, OpenParen, MOST_VARIABLES, Depth}
-use Rattle.policy_syntax.proofs.Vocabulary.{SyntaxTerm}
+use Rattle.policy_syntax.proofs.Vocabulary.{◌≤◌, List, [], ◌∷◌, sym, subst, ap, ◌∙◌, BehindName, FirstArgument, stack_item, Ahead, Symbol, next_lexeme, IsLexemeTaken, ArgumentsRead, TermsRead}
+use Rattle.policy_syntax.proofs.Vocabulary.{CloseParen, OpenParen, MOST_VARIABLES, Depth, SyntaxTerm}
 use Rattle.policy_syntax.specs.machine.PartOutcomes.{Continues}
 use Rattle.policy_syntax.proofs.FormulaPhrases.{not_at}
-use Rattle.policy_syntax.proofs.PartMoves.{arguments_barred, arguments_end, event_many, event_opens, event_taken}
-use Rattle.policy_syntax.proofs.PartMoves.{first_argument, mark_stops, mark_taken, no_arguments}
+use Rattle.policy_syntax.proofs.PartMoves.{arguments_barred, arguments_end, event_many, event_opens, event_taken, first_argument, mark_stops, mark_taken, no_arguments}
 use Rattle.policy_syntax.proofs.PartPhrases.{no_arguments as none_read, some_arguments}
 use Rattle.policy_syntax.proofs.AutomatonSteps.{after, follows_err, refused_after}
 use Rattle.policy_syntax.proofs.parts.Parts.arguments.Goals as goal

@@ -1,8 +1,6 @@
-use Rattle.policy_syntax.proofs.Vocabulary.{◌+◌, [], ◌∷◌, sym, ap, subst, ◌∙◌, arith, BoundVariable}
-use Rattle.policy_syntax.proofs.Vocabulary.{stack_item, lexeme_of, SyntaxRefusal}
+use Rattle.policy_syntax.proofs.Vocabulary.{◌+◌, [], ◌∷◌, sym, ap, subst, ◌∙◌, arith, BoundVariable, stack_item, lexeme_of, SyntaxRefusal}
 use Rattle.policy_syntax.specs.machine.PartOutcomes.{RefusesFrom}
-use Rattle.policy_syntax.proofs.PartMoves.{IsNoName, variable_taken, variable_other, variable_many, variable_barred}
-use Rattle.policy_syntax.proofs.PartMoves.{no_name}
+use Rattle.policy_syntax.proofs.PartMoves.{IsNoName, variable_taken, variable_other, variable_many, variable_barred, no_name}
 use Rattle.policy_syntax.proofs.AutomatonSteps.{follows_err}
 use Rattle.policy_syntax.proofs.parts.Parts.binding.Goals as goal
 

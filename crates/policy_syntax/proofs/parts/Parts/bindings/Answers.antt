@@ -1,7 +1,5 @@
-use Rattle.policy_syntax.proofs.Vocabulary.{◌≡◌, refl, ◌+◌, length, ℕ, List, [], ◌∷◌, ◌++◌, sym}
-use Rattle.policy_syntax.proofs.Vocabulary.{ap, subst, ◌∙◌, arith, length-append, PolicyLexeme, NameLexeme}
-use Rattle.policy_syntax.proofs.Vocabulary.{Symbol, Ahead, IsLexemeTaken, VariablesRead, Comma, Binding, BehindVariable}
-use Rattle.policy_syntax.proofs.Vocabulary.{BoundVariable, stack_item}
+use Rattle.policy_syntax.proofs.Vocabulary.{◌≡◌, refl, ◌+◌, length, ℕ, List, [], ◌∷◌, ◌++◌, sym, ap, subst, ◌∙◌, arith, length-append, PolicyLexeme, NameLexeme, Symbol, Ahead, IsLexemeTaken}
+use Rattle.policy_syntax.proofs.Vocabulary.{VariablesRead, Comma, Binding, BehindVariable, BoundVariable, stack_item}
 use Rattle.policy_syntax.specs.machine.PartOutcomes.{Continues}
 use Rattle.policy_syntax.proofs.PartPhrases.{last_variable, next_variable, snoc_append}
 use Rattle.policy_syntax.proofs.FormulaPhrases.{not_at}

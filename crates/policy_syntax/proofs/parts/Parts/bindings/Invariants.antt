@@ -1,5 +1,4 @@
-use Rattle.policy_syntax.proofs.Vocabulary.{◌≡◌, List, [], ◌∷◌, ◌+◌, length, ◌++◌, BoundVariable}
-use Rattle.policy_syntax.proofs.Vocabulary.{stack_item, PlacedLexeme, VariablesRead, Depth, Parts, Binding}
+use Rattle.policy_syntax.proofs.Vocabulary.{◌≡◌, List, [], ◌∷◌, ◌+◌, length, ◌++◌, BoundVariable, stack_item, PlacedLexeme, VariablesRead, Depth, Parts, Binding}
 use Rattle.policy_syntax.specs.machine.PartOutcomes.{Continues}
 use Rattle.policy_syntax.proofs.parts.Parts.bindings.Given as goal
 

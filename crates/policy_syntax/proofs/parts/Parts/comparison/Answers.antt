@@ -1,10 +1,8 @@
-use Rattle.policy_syntax.proofs.Vocabulary.{◌≡◌, sym, ap, subst, ◌∙◌, [], ◌∷◌, PolicyLexeme, Sign}
-use Rattle.policy_syntax.proofs.Vocabulary.{next_lexeme, lexeme_of, IsLexemeTaken, PrimaryRead, SyntaxTree}
-use Rattle.policy_syntax.proofs.Vocabulary.{BehindConstant, stack_item, SyntaxRefusal}
+use Rattle.policy_syntax.proofs.Vocabulary.{◌≡◌, sym, ap, subst, ◌∙◌, [], ◌∷◌, PolicyLexeme, Sign, next_lexeme, lexeme_of, IsLexemeTaken, PrimaryRead, SyntaxTree, BehindConstant, stack_item}
+use Rattle.policy_syntax.proofs.Vocabulary.{SyntaxRefusal}
 use Rattle.policy_syntax.specs.machine.PartOutcomes.{RefusesFrom}
 use Rattle.policy_syntax.proofs.PartPhrases.{comparison_read}
-use Rattle.policy_syntax.proofs.PartMoves.{IsNoSign, comparison_other, no_sign, operator_barred, operator_taken}
-use Rattle.policy_syntax.proofs.PartMoves.{right_side, sign_is, term_barred, term_taken}
+use Rattle.policy_syntax.proofs.PartMoves.{IsNoSign, comparison_other, no_sign, operator_barred, operator_taken, right_side, sign_is, term_barred, term_taken}
 use Rattle.policy_syntax.proofs.AutomatonSteps.{after, follows_err, refused_after}
 use Rattle.policy_syntax.proofs.parts.Parts.comparison.Goals as goal
 

@@ -1,7 +1,6 @@
 use Rattle.policy_syntax.proofs.Vocabulary.{refl}
-use Rattle.policy_syntax.proofs.PartMoves.{close_bracket, first_end_barred, first_end_taken, interval_comma}
-use Rattle.policy_syntax.proofs.PartMoves.{mark_barred, mark_taken, only_close_bracket, only_interval_comma}
-use Rattle.policy_syntax.proofs.PartMoves.{only_open_bracket, open_bracket}
+use Rattle.policy_syntax.proofs.PartMoves.{close_bracket, first_end_barred, first_end_taken, interval_comma, mark_barred, mark_taken, only_close_bracket, only_interval_comma, only_open_bracket}
+use Rattle.policy_syntax.proofs.PartMoves.{open_bracket}
 use Rattle.policy_syntax.proofs.PartPhrases.{interval_read}
 use Rattle.policy_syntax.proofs.AutomatonSteps.{after, follows_err, refused_after}
 use Rattle.policy_syntax.proofs.parts.Parts.interval.Goals as goal

@@ -1,5 +1,4 @@
-use Rattle.policy_syntax.proofs.Vocabulary.{List, if_ok_map, PlacedLexeme, PrimaryRead, TermRead, syntax_tree_of}
-use Rattle.policy_syntax.proofs.Vocabulary.{SyntaxFormula}
+use Rattle.policy_syntax.proofs.Vocabulary.{List, if_ok_map, PlacedLexeme, PrimaryRead, TermRead, syntax_tree_of, SyntaxFormula}
 use Rattle.policy_syntax.specs.declared.trees.SyntaxTerm.TheVariants.{Variable}
 use Rattle.policy_syntax.proofs.PartPhrases.{event_read, variable_read}
 use Rattle.policy_syntax.proofs.FormulaPhrases.{not_at}

@@ -1,5 +1,4 @@
-use Rattle.policy_syntax.proofs.Vocabulary.{◌≡◌, ℕ, ap, subst, ◌∙◌, arith, Bars, level_refusal}
-use Rattle.policy_syntax.proofs.Vocabulary.{next_place_of, Ahead, next_place, Limit}
+use Rattle.policy_syntax.proofs.Vocabulary.{◌≡◌, ℕ, ap, subst, ◌∙◌, arith, Bars, level_refusal, next_place_of, Ahead, next_place, Limit}
 use Rattle.policy_syntax.proofs.PartMoves.{node_many, node_level}
 use Rattle.policy_syntax.proofs.AutomatonSteps.{bars_err}
 use Rattle.policy_syntax.proofs.parts.Parts.take_node.Goals as goal

@@ -1,5 +1,4 @@
-use Rattle.policy_syntax.proofs.Vocabulary.{◌≡◌, true, sym, ap, subst, ◌∙◌, arith, next_lexeme_of}
-use Rattle.policy_syntax.proofs.Vocabulary.{PolicyLexeme, is_constant, lexeme_of, IsLexemeTaken}
+use Rattle.policy_syntax.proofs.Vocabulary.{◌≡◌, true, sym, ap, subst, ◌∙◌, arith, next_lexeme_of, PolicyLexeme, is_constant, lexeme_of, IsLexemeTaken}
 use Rattle.policy_syntax.proofs.PartMoves.{constant_fine}
 use Rattle.policy_syntax.proofs.PartPhrases.{variable_read, constant_read}
 use Rattle.policy_syntax.proofs.parts.Parts.term.Goals as goal

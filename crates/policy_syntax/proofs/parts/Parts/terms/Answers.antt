@@ -1,9 +1,7 @@
-use Rattle.policy_syntax.proofs.Vocabulary.{◌≡◌, List, [], ◌∷◌, ◌++◌, sym, ap, subst, ◌∙◌, arith}
-use Rattle.policy_syntax.proofs.Vocabulary.{TermsRead, SyntaxTerm}
+use Rattle.policy_syntax.proofs.Vocabulary.{◌≡◌, List, [], ◌∷◌, ◌++◌, sym, ap, subst, ◌∙◌, arith, TermsRead, SyntaxTerm}
 use Rattle.policy_syntax.proofs.PartPhrases.{last_term, next_term, snoc_append}
 use Rattle.policy_syntax.proofs.FormulaPhrases.{not_at}
-use Rattle.policy_syntax.proofs.PartMoves.{argument, argument_comma, mark_stops, mark_taken, refuses_no_memory}
-use Rattle.policy_syntax.proofs.PartMoves.{term_barred, term_taken}
+use Rattle.policy_syntax.proofs.PartMoves.{argument, argument_comma, mark_stops, mark_taken, refuses_no_memory, term_barred, term_taken}
 use Rattle.policy_syntax.proofs.AutomatonSteps.{after, begins, follows_err, refused_after}
 use Rattle.policy_syntax.proofs.parts.Parts.terms.Invariants.{IsFront}
 use Rattle.policy_syntax.proofs.parts.Parts.terms.Goals as goal

@@ -1,5 +1,4 @@
-use Rattle.policy_syntax.proofs.Vocabulary.{ℕ, List, [], ◌∷◌, length, ◌++◌, NextArgument, stack_item}
-use Rattle.policy_syntax.proofs.Vocabulary.{PlacedLexeme, TermsRead, Parts, SyntaxTerm}
+use Rattle.policy_syntax.proofs.Vocabulary.{ℕ, List, [], ◌∷◌, length, ◌++◌, NextArgument, stack_item, PlacedLexeme, TermsRead, Parts, SyntaxTerm}
 use Rattle.policy_syntax.specs.machine.PartOutcomes.{Continues}
 use Rattle.policy_syntax.proofs.parts.Parts.terms.Given as goal
 

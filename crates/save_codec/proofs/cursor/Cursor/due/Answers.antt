@@ -1,6 +1,5 @@
 -- The numbers and then the values.
-use Rattle.save_codec.proofs.Vocabulary.{◌≡◌, ◌++◌, ℕ, Some, ap, sym, codes, ◌∙◌, spaced, values_text}
-use Rattle.save_codec.proofs.Vocabulary.{Due}
+use Rattle.save_codec.proofs.Vocabulary.{◌≡◌, ◌++◌, ℕ, Some, ap, sym, codes, ◌∙◌, spaced, values_text, Due}
 use Rattle.save_codec.proofs.LineTexts.{due_split}
 use Rattle.save_codec.proofs.ValueLists.{newline_ends, values_no_digit}
 use Rattle.save_codec.proofs.cursor.Cursor.due.Goals as goal

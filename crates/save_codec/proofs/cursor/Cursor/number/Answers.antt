@@ -1,6 +1,5 @@
 -- The digits in front are those of the number, as it is printed.
-use Rattle.save_codec.proofs.Vocabulary.{◌≡◌, ◌∙◌, ◌+◌, Some, ap, decimal, length, pos, zero-add, Num}
-use Rattle.save_codec.proofs.Vocabulary.{behind_front}
+use Rattle.save_codec.proofs.Vocabulary.{◌≡◌, ◌∙◌, ◌+◌, Some, ap, decimal, length, pos, zero-add, Num, behind_front}
 use Rattle.save_codec.proofs.ByteFronts.{number_there, printed_there, printed_zero_alone}
 use Rattle.save_codec.proofs.cursor.Cursor.number.Goals as goal
 

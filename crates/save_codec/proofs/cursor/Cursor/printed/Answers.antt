@@ -1,5 +1,4 @@
-use Rattle.save_codec.proofs.Vocabulary.{◌≡◌, ◌++◌, refl, ap, sym, ◌∙◌, quoted, spelled}
-use Rattle.save_codec.proofs.Vocabulary.{cancel_front as cancel}
+use Rattle.save_codec.proofs.Vocabulary.{◌≡◌, ◌++◌, refl, ap, sym, ◌∙◌, quoted, spelled, cancel_front as cancel}
 use Rattle.save_codec.proofs.cursor.Cursor.printed.Goals as goal
 
 pub returns-then-quoted-clause-again : goal.returns-then-quoted-clause-again

@@ -1,6 +1,5 @@
 -- The window, the time and then the values.
-use Rattle.save_codec.proofs.Vocabulary.{◌≡◌, ◌++◌, Some, ap, sym, codes, arith, ◌∙◌, spaced}
-use Rattle.save_codec.proofs.Vocabulary.{values_text, Row}
+use Rattle.save_codec.proofs.Vocabulary.{◌≡◌, ◌++◌, Some, ap, sym, codes, arith, ◌∙◌, spaced, values_text, Row}
 use Rattle.save_codec.proofs.LineTexts.{row_split}
 use Rattle.save_codec.proofs.ValueLists.{newline_ends, values_no_digit}
 use Rattle.save_codec.proofs.cursor.Cursor.row.Goals as goal

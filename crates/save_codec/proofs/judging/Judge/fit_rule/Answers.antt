@@ -1,5 +1,4 @@
-use Rattle.save_codec.proofs.Vocabulary.{◌≡◌, List, None, Some, slice_get, ap, sym, ◌∙◌, option_copied}
-use Rattle.save_codec.proofs.Vocabulary.{Known}
+use Rattle.save_codec.proofs.Vocabulary.{◌≡◌, List, None, Some, slice_get, ap, sym, ◌∙◌, option_copied, Known}
 use Rattle.save_codec.proofs.InstanceLemmas.{no_rule, rule_fits}
 use Rattle.save_codec.proofs.judging.Judge.fit_rule.Goals as goal
 

@@ -1,5 +1,4 @@
-use Rattle.save_codec.proofs.Vocabulary.{◌≡◌, ◌++◌, map, AllByRecursion, RowFits, SaveSetting, kept_row_of}
-use Rattle.save_codec.proofs.Vocabulary.{IsJudge}
+use Rattle.save_codec.proofs.Vocabulary.{◌≡◌, ◌++◌, map, AllByRecursion, RowFits, SaveSetting, kept_row_of, IsJudge}
 use Rattle.save_codec.proofs.judging.Judge.fitting_rows.Given as goal
 
 abbrev pub invariant-loop-row : goal.invariant-loop-row

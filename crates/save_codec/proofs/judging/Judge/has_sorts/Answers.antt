@@ -1,6 +1,5 @@
 -- By what is known of the window's columns.
-use Rattle.save_codec.proofs.Vocabulary.{◌≡◌, List, None, Some, slice_get, ap, sym, ◌∙◌, option_copied}
-use Rattle.save_codec.proofs.Vocabulary.{WindowShape, Known}
+use Rattle.save_codec.proofs.Vocabulary.{◌≡◌, List, None, Some, slice_get, ap, sym, ◌∙◌, option_copied, WindowShape, Known}
 use Rattle.save_codec.proofs.JudgeLemmas.{no_known, sorts_known}
 use Rattle.save_codec.proofs.judging.Judge.has_sorts.Goals as goal
 

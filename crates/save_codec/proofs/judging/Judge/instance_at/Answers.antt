@@ -1,6 +1,5 @@
 -- The instance has the values of the line.
-use Rattle.save_codec.proofs.Vocabulary.{◌≡◌, List, refl, sym, subst, ◌∙◌, false≢true, no_values, VarId}
-use Rattle.save_codec.proofs.Vocabulary.{Value, filled_from_row, RuleTells, FitTold}
+use Rattle.save_codec.proofs.Vocabulary.{◌≡◌, List, refl, sym, subst, ◌∙◌, false≢true, no_values, VarId, Value, filled_from_row, RuleTells, FitTold}
 use Rattle.save_codec.proofs.InstanceLemmas.{fits_waits, is_instance, rule_there}
 use Rattle.save_codec.proofs.judging.Judge.instance_at.Goals as goal
 

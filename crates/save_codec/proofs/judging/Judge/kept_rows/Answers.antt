@@ -1,6 +1,5 @@
 -- Which row is the first that breaks the bounds.
-use Rattle.save_codec.proofs.Vocabulary.{List, map, rules, subst, ◌∙◌, AreWithinBounds, IsFirstOutOfBounds}
-use Rattle.save_codec.proofs.Vocabulary.{operator_of, WindowShape}
+use Rattle.save_codec.proofs.Vocabulary.{List, map, rules, subst, ◌∙◌, AreWithinBounds, IsFirstOutOfBounds, operator_of, WindowShape}
 use Rattle.save_codec.proofs.JudgeLemmas.{broken_row, rows_fit, unfit_row}
 use Rattle.save_codec.proofs.judging.Judge.kept_rows.Goals as goal
 

@@ -1,7 +1,5 @@
 -- Which line is the first that breaks the bounds.
-use Rattle.save_codec.proofs.Vocabulary.{◌≡◌, ◌+◌, ◌∙◌, List, length, ap, sym, subst, rules}
-use Rattle.save_codec.proofs.Vocabulary.{AreInstancesOf, AreDuesWithin, IsUnfit, IsUnfitLine, unfit_refusal, lines_in}
-use Rattle.save_codec.proofs.Vocabulary.{DueLine}
+use Rattle.save_codec.proofs.Vocabulary.{◌≡◌, ◌+◌, ◌∙◌, List, length, ap, sym, subst, rules, AreInstancesOf, AreDuesWithin, IsUnfit, IsUnfitLine, unfit_refusal, lines_in, DueLine}
 use Rattle.save_codec.proofs.StateLemmas.{due_refusal, is_state, number_refusal, row_refusal}
 use Rattle.save_codec.proofs.judging.Judge.state.Goals as goal
 

@@ -1,5 +1,4 @@
-use Rattle.signature.proofs.Vocabulary.{ℕ, Vec, sym, ◌∙◌, ap, slice_get, option_map, Global, slice_get-map}
-use Rattle.signature.proofs.Vocabulary.{NameEntry}
+use Rattle.signature.proofs.Vocabulary.{ℕ, Vec, sym, ◌∙◌, ap, slice_get, option_map, Global, slice_get-map, NameEntry}
 use Rattle.signature.proofs.signatures.Signature.entry.Goals as goal
 
 pub returns : goal.returns

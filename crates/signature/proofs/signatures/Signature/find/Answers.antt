@@ -1,5 +1,4 @@
-use Rattle.signature.proofs.Vocabulary.{◌≡◌, None, Some, sym, ◌∙◌, ap, subst, rules, HasNoRepeats}
-use Rattle.signature.proofs.Vocabulary.{entry_names, name_number}
+use Rattle.signature.proofs.Vocabulary.{◌≡◌, None, Some, sym, ◌∙◌, ap, subst, rules, HasNoRepeats, entry_names, name_number}
 use Rattle.signature.proofs.SignatureLaws.{name_at_place}
 use Rattle.signature.proofs.Numbers.{absent_from_none, found_only, number_found, number_is}
 use Rattle.signature.proofs.signatures.Signature.find.Goals as goal

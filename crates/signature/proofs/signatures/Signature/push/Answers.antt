@@ -1,6 +1,5 @@
-use Rattle.signature.proofs.Vocabulary.{◌≡◌, ℕ, List, [], ◌∷◌, ◌++◌, None, Vec, map, nat_eq, sym, ap}
-use Rattle.signature.proofs.Vocabulary.{subst, ◌∙◌, pointwise, Global, insert_entry-new, IsNewEntry}
-use Rattle.signature.proofs.Vocabulary.{AreKeyedByName, IsSignature, name_number, NameEntry}
+use Rattle.signature.proofs.Vocabulary.{◌≡◌, ℕ, List, [], ◌∷◌, ◌++◌, None, Vec, map, nat_eq, sym, ap, subst, ◌∙◌, pointwise, Global, insert_entry-new, IsNewEntry, AreKeyedByName, IsSignature}
+use Rattle.signature.proofs.Vocabulary.{name_number, NameEntry}
 use Rattle.signature.proofs.Numbers.{insert_new, keyed_push, entries_push, signature_push}
 use Rattle.signature.proofs.signatures.Signature.push.Goals as goal
 

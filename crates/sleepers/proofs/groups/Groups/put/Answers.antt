@@ -1,5 +1,4 @@
-use Rattle.sleepers.proofs.Vocabulary.{OnOk, set, refl, sym, subst, subst₂, arith, on_ok_weaker, HasIn, entries_at}
-use Rattle.sleepers.proofs.Vocabulary.{held}
+use Rattle.sleepers.proofs.Vocabulary.{OnOk, set, refl, sym, subst, subst₂, arith, on_ok_weaker, HasIn, entries_at, held}
 use Rattle.sleepers.proofs.GroupChangeLemmas.{put_group, put_held}
 use Rattle.sleepers.proofs.groups.Groups.put.Goals.{in-Some, in-None}
 use Rattle.sleepers.proofs.groups.Groups.put.Goals as goal

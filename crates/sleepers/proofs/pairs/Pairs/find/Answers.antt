@@ -1,6 +1,4 @@
-use Rattle.sleepers.proofs.Vocabulary.{rules, ◌≡◌, ℕ, ◌<◌, ◌^◌, List, Contains, map, sym, subst}
-use Rattle.sleepers.proofs.Vocabulary.{subst₂, true, range_contains, deref, Included, iter_end}
-use Rattle.sleepers.proofs.Vocabulary.{AllByRecursion-contains, shown}
+use Rattle.sleepers.proofs.Vocabulary.{rules, ◌≡◌, ℕ, ◌<◌, ◌^◌, List, Contains, map, sym, subst, subst₂, true, range_contains, deref, Included, iter_end, AllByRecursion-contains, shown}
 use Rattle.sleepers.proofs.EntryLemmas.{shown_put}
 use Rattle.sleepers.proofs.PairLemmas.{filter_has, in_range, push_on, push_seen, pair_cmp}
 use Rattle.sleepers.proofs.pairs.Pairs.find.Goals as goal

@@ -1,5 +1,4 @@
-use Rattle.sleepers.proofs.Vocabulary.{◌≡◌, ◌+◌, ap, arith, reverse, sym, subst, subst₂, ◌∙◌}
-use Rattle.sleepers.proofs.Vocabulary.{HasOneMoreEntry, IsFreePlace, AreKept, by_place, held}
+use Rattle.sleepers.proofs.Vocabulary.{◌≡◌, ◌+◌, ap, arith, reverse, sym, subst, subst₂, ◌∙◌, HasOneMoreEntry, IsFreePlace, AreKept, by_place, held}
 use Rattle.sleepers.proofs.NotedGroupLemmas.{kept_put, kept_stay}
 use Rattle.sleepers.proofs.PlaceListLemmas.{by_place_more}
 use Rattle.sleepers.proofs.sleeper_list.Sleepers.put.Goals as goal

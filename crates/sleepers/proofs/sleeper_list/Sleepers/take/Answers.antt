@@ -1,5 +1,4 @@
-use Rattle.sleepers.proofs.Vocabulary.{◌-◌, ◌∷◌, Some, ap, reverse, sym, subst, ◌∙◌, HasOneMoreEntry}
-use Rattle.sleepers.proofs.Vocabulary.{AreKept, AreNoted, ahead_of, by_place, held}
+use Rattle.sleepers.proofs.Vocabulary.{◌-◌, ◌∷◌, Some, ap, reverse, sym, subst, ◌∙◌, HasOneMoreEntry, AreKept, AreNoted, ahead_of, by_place, held}
 use Rattle.sleepers.proofs.GroupLemmas.{ahead_same}
 use Rattle.sleepers.proofs.NotedGroupLemmas.{kept_on}
 use Rattle.sleepers.proofs.BackwardLemmas.{last_front}

@@ -1,5 +1,4 @@
-use Rattle.sleepers.proofs.Vocabulary.{List, ℕ, ap, reverse, sym, subst, subst₂, ◌∙◌, IsAllBut, IsAsleep}
-use Rattle.sleepers.proofs.Vocabulary.{AreKept, AreRewound, ahead_of}
+use Rattle.sleepers.proofs.Vocabulary.{List, ℕ, ap, reverse, sym, subst, subst₂, ◌∙◌, IsAllBut, IsAsleep, AreKept, AreRewound, ahead_of}
 use Rattle.sleepers.proofs.BackwardLemmas.{awake_back, rewound_back}
 use Rattle.sleepers.proofs.GroupLemmas.{rewound_ahead, woken_all}
 use Rattle.sleepers.proofs.GroupWalkLemmas.{begun_kept}

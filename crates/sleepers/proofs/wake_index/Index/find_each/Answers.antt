@@ -1,5 +1,4 @@
-use Rattle.sleepers.proofs.Vocabulary.{◌≡◌, List, Contains, ⊎_elim, ap, sym, subst, ◌∙◌, take_all, Event}
-use Rattle.sleepers.proofs.Vocabulary.{shape_of, Noted, MatchesPattern, Shape}
+use Rattle.sleepers.proofs.Vocabulary.{◌≡◌, List, Contains, ⊎_elim, ap, sym, subst, ◌∙◌, take_all, Event, shape_of, Noted, MatchesPattern, Shape}
 use Rattle.sleepers.specs.machine.PatternKeys.{pattern_key}
 use Rattle.sleepers.proofs.LoopLemmas.{in_next}
 use Rattle.sleepers.proofs.wake_index.Index.find_each.Goals as goal

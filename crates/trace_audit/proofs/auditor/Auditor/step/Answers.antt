@@ -1,7 +1,5 @@
-use Rattle.trace_audit.proofs.Vocabulary.{◌≤◌, ◌+◌, List, map, refl, sym, subst, arith, AllByRecursion}
-use Rattle.trace_audit.proofs.Vocabulary.{no_values, Event, AreCopies, AreTablesAtStep, GuardsWillHold, PlacedGuard}
-use Rattle.trace_audit.proofs.Vocabulary.{plan_of, CanEvaluatePlan, Auditing, HasTaken, JudgesStep, guards_at}
-use Rattle.trace_audit.proofs.Vocabulary.{placed_guard, audit_moment}
+use Rattle.trace_audit.proofs.Vocabulary.{◌≤◌, ◌+◌, List, map, refl, sym, subst, arith, AllByRecursion, no_values, Event, AreCopies, AreTablesAtStep, GuardsWillHold, PlacedGuard, plan_of}
+use Rattle.trace_audit.proofs.Vocabulary.{CanEvaluatePlan, Auditing, HasTaken, JudgesStep, guards_at, placed_guard, audit_moment}
 use Rattle.plan_terms.specs.declared.plans.Plan.{Plan as StoredPlan}
 use Rattle.trace_audit.proofs.AuditLemmas.{audits_more, roots_can}
 use Rattle.trace_audit.proofs.auditor.Auditor.step.Goals as goal

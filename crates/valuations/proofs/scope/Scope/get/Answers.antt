@@ -1,5 +1,4 @@
-use Rattle.valuations.proofs.Vocabulary.{◌≡◌, ◌+◌, ◌-◌, ◌<◌, ap, sym, subst, ◌∙◌, length, take}
-use Rattle.valuations.proofs.Vocabulary.{arith, eqb-true, eqb-false, value_at, bound_by, bound_in}
+use Rattle.valuations.proofs.Vocabulary.{◌≡◌, ◌+◌, ◌-◌, ◌<◌, ap, sym, subst, ◌∙◌, length, take, arith, eqb-true, eqb-false, value_at, bound_by, bound_in}
 use Rattle.valuations.proofs.ColumnLaws.{same_variable}
 use Rattle.valuations.proofs.PartLemmas.{bound_here, bound_before}
 use Rattle.valuations.proofs.scope.Scope.get.Goals as goal

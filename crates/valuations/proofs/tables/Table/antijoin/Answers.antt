@@ -1,7 +1,5 @@
-use Rattle.valuations.proofs.Vocabulary.{◌≡◌, ◌∙◌, ◌↔◌, refl, sym, subst, Contains, IfOk, Valuation}
-use Rattle.valuations.proofs.Vocabulary.{all_from as each, shown_rows, HasValuation}
-use Rattle.valuations.proofs.TableLemmas.{AreAntijoinParts, contains_by, places_by, single_by, single_others, fits_by}
-use Rattle.valuations.proofs.TableLemmas.{ok_relation, antijoin_fits, antijoin_has}
+use Rattle.valuations.proofs.Vocabulary.{◌≡◌, ◌∙◌, ◌↔◌, refl, sym, subst, Contains, IfOk, Valuation, all_from as each, shown_rows, HasValuation}
+use Rattle.valuations.proofs.TableLemmas.{AreAntijoinParts, contains_by, places_by, single_by, single_others, fits_by, ok_relation, antijoin_fits, antijoin_has}
 use Rattle.valuations.proofs.tables.Table.antijoin.Goals as goal
 
 pub places_of-requires : goal.places_of-requires

@@ -1,6 +1,4 @@
-use Rattle.valuations.proofs.Vocabulary.{rules, ◌≡◌, length, subst, sym, dedup, is_lt, eq_by_cmp, dedup_same}
-use Rattle.valuations.proofs.Vocabulary.{answers_always, ranks_by, All-permutation, All-dedup, row_cmp, IsTable}
-use Rattle.valuations.proofs.Vocabulary.{row_cmp_total}
+use Rattle.valuations.proofs.Vocabulary.{rules, ◌≡◌, length, subst, sym, dedup, is_lt, eq_by_cmp, dedup_same, answers_always, ranks_by, All-permutation, All-dedup, row_cmp, IsTable, row_cmp_total}
 use Rattle.std.specs.List.{All}
 use Rattle.valuations.proofs.RowOrder.{sorted_set, IsSortedSet}
 use Rattle.valuations.proofs.tables.Table.from_rows.Goals as goal

@@ -1,5 +1,4 @@
-use Rattle.valuations.proofs.Vocabulary.{rules, subst, map, Some, length, ◌∙◌, always_returns_same, value_at}
-use Rattle.valuations.proofs.Vocabulary.{key_cmp, IsSearchInRange, IsBinarySearchResult}
+use Rattle.valuations.proofs.Vocabulary.{rules, subst, map, Some, length, ◌∙◌, always_returns_same, value_at, key_cmp, IsSearchInRange, IsBinarySearchResult}
 use Rattle.valuations.proofs.LookupLemmas.{lookup_tells}
 use Rattle.valuations.proofs.tables.Table.has_valuation.Goals as goal
 

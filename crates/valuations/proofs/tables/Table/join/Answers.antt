@@ -1,8 +1,6 @@
-use Rattle.valuations.proofs.Vocabulary.{◌≡◌, ◌∙◌, ◌↔◌, refl, sym, ap, subst, List, ◌++◌, length}
-use Rattle.valuations.proofs.Vocabulary.{Contains, IfOk, HasNoRepeats, VarId, shown_rows, Valuation, columns_shared}
-use Rattle.valuations.proofs.Vocabulary.{columns_unshared, HasValuation}
-use Rattle.valuations.proofs.TableLemmas.{AreJoinParts, contains_by, places_by, joined_by, joined_others, fits_by}
-use Rattle.valuations.proofs.TableLemmas.{ok_relation, shared_left, shared_right, not_shared_right, joined_distinct}
+use Rattle.valuations.proofs.Vocabulary.{◌≡◌, ◌∙◌, ◌↔◌, refl, sym, ap, subst, List, ◌++◌, length, Contains, IfOk, HasNoRepeats, VarId, shown_rows, Valuation, columns_shared, columns_unshared}
+use Rattle.valuations.proofs.Vocabulary.{HasValuation}
+use Rattle.valuations.proofs.TableLemmas.{AreJoinParts, contains_by, places_by, joined_by, joined_others, fits_by, ok_relation, shared_left, shared_right, not_shared_right, joined_distinct}
 use Rattle.valuations.proofs.TableLemmas.{places_long, join_fits, join_has}
 use Rattle.valuations.proofs.tables.Table.join.Goals as goal
 

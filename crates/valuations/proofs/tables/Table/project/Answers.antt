@@ -1,7 +1,5 @@
-use Rattle.valuations.proofs.Vocabulary.{◌≡◌, ◌∙◌, ◌↔◌, subst, List, [], map, Contains, IfOk}
-use Rattle.valuations.proofs.Vocabulary.{Valuation, all_from as each, row_part, ArePlaces, HasValuation, AgreeOnColumns}
-use Rattle.valuations.proofs.TableLemmas.{contains_by, places_by, fits_by, ok_relation, parts_fit, pushed_parts}
-use Rattle.valuations.proofs.TableLemmas.{project_has}
+use Rattle.valuations.proofs.Vocabulary.{◌≡◌, ◌∙◌, ◌↔◌, subst, List, [], map, Contains, IfOk, Valuation, all_from as each, row_part, ArePlaces, HasValuation, AgreeOnColumns}
+use Rattle.valuations.proofs.TableLemmas.{contains_by, places_by, fits_by, ok_relation, parts_fit, pushed_parts, project_has}
 use Rattle.valuations.proofs.tables.Table.project.Goals as goal
 
 pub places_of-requires : goal.places_of-requires

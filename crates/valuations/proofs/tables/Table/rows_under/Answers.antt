@@ -1,6 +1,4 @@
-use Rattle.valuations.proofs.Vocabulary.{◌≡◌, ◌∙◌, ◌↔◌, ap, subst, List, map, Contains, IfOk, filter}
-use Rattle.valuations.proofs.Vocabulary.{option_copied, Valuation, value_at, is_row_as_bound, HasValuation}
-use Rattle.valuations.proofs.Vocabulary.{AgreesWhereBound}
+use Rattle.valuations.proofs.Vocabulary.{◌≡◌, ◌∙◌, ◌↔◌, ap, subst, List, map, Contains, IfOk, filter, option_copied, Valuation, value_at, is_row_as_bound, HasValuation, AgreesWhereBound}
 use Rattle.valuations.proofs.TableLemmas.{fits_by, ok_relation}
 use Rattle.valuations.proofs.ComparisonLemmas.{kept_fits, under_has}
 use Rattle.valuations.proofs.tables.Table.rows_under.Given.{Over}

@@ -1,6 +1,4 @@
-use Rattle.valuations.proofs.Vocabulary.{◌≡◌, ◌∙◌, ◌↔◌, ap, subst, List, Contains, IfOk, filter}
-use Rattle.valuations.proofs.Vocabulary.{Valuation, value_of_term, ComparesValues, compares_values, ReadsTerm}
-use Rattle.valuations.proofs.Vocabulary.{operand_value, HasValuation}
+use Rattle.valuations.proofs.Vocabulary.{◌≡◌, ◌∙◌, ◌↔◌, ap, subst, List, Contains, IfOk, filter, Valuation, value_of_term, ComparesValues, compares_values, ReadsTerm, operand_value, HasValuation}
 use Rattle.valuations.proofs.TableLemmas.{fits_by, ok_relation}
 use Rattle.valuations.proofs.ComparisonLemmas.{kept_fits, select_has}
 use Rattle.valuations.proofs.tables.Table.select.Goals as goal

@@ -1,8 +1,5 @@
-use Rattle.valuations.proofs.Vocabulary.{◌≡◌, ◌∙◌, ◌↔◌, ◌⊎◌, ap, subst, List, ◌++◌, length}
-use Rattle.valuations.proofs.Vocabulary.{map, Contains, IfOk, All-append, Valuation, all_from as each, row_part}
-use Rattle.valuations.proofs.Vocabulary.{ArePlaces, HasValuation}
-use Rattle.valuations.proofs.TableLemmas.{contains_by, places_by, fits_by, ok_relation, parts_fit, pushed_parts}
-use Rattle.valuations.proofs.TableLemmas.{union_has}
+use Rattle.valuations.proofs.Vocabulary.{◌≡◌, ◌∙◌, ◌↔◌, ◌⊎◌, ap, subst, List, ◌++◌, length, map, Contains, IfOk, All-append, Valuation, all_from as each, row_part, ArePlaces, HasValuation}
+use Rattle.valuations.proofs.TableLemmas.{contains_by, places_by, fits_by, ok_relation, parts_fit, pushed_parts, union_has}
 use Rattle.valuations.proofs.tables.Table.union.Goals as goal
 
 pub places_of-requires : goal.places_of-requires

@@ -1,5 +1,4 @@
-use Rattle.valuations.proofs.Vocabulary.{◌≡◌, ◌∙◌, ap, subst, sym, [], ◌∷◌, ◌++◌, length, arith}
-use Rattle.valuations.proofs.Vocabulary.{VarId, All-cons, All-nil, Relation, IsTable}
+use Rattle.valuations.proofs.Vocabulary.{◌≡◌, ◌∙◌, ap, subst, sym, [], ◌∷◌, ◌++◌, length, arith, VarId, All-cons, All-nil, Relation, IsTable}
 use Rattle.std.specs.List.Sorted.{IsStrictlySortedBy}
 use Rattle.valuations.proofs.tables.Table.unit.Goals as goal
 

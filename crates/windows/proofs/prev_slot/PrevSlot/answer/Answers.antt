@@ -1,5 +1,4 @@
-use Rattle.windows.proofs.Vocabulary.{◌↔◌, ◌∙◌, sym, subst, false≢true, IfOk-weaker, Valuation}
-use Rattle.windows.proofs.Vocabulary.{HasValuation, GivesLast}
+use Rattle.windows.proofs.Vocabulary.{◌↔◌, ◌∙◌, sym, subst, false≢true, IfOk-weaker, Valuation, HasValuation, GivesLast}
 use Rattle.windows.proofs.SlotLemmas.{given, not_given, none_given}
 use Rattle.windows.proofs.prev_slot.PrevSlot.answer.Goals.{in-Some+else-has, in_default}
 use Rattle.windows.proofs.prev_slot.PrevSlot.answer.Goals as goal

@@ -1,5 +1,4 @@
-use Rattle.windows.proofs.Vocabulary.{All, Some, length, ◌≡◌, ◌∙◌, ◌++◌, map, sym, ap, subst, All-nil}
-use Rattle.windows.proofs.Vocabulary.{row_cmp, AreOfLast, AreRising, last_step_time, pair, LastHasColumns}
+use Rattle.windows.proofs.Vocabulary.{All, Some, length, ◌≡◌, ◌∙◌, ◌++◌, map, sym, ap, subst, All-nil, row_cmp, AreOfLast, AreRising, last_step_time, pair, LastHasColumns}
 use Rattle.std.specs.List.Sorted.{IsStrictlySortedBy}
 use Rattle.windows.proofs.PairLemmas.{are_of_last, none_of_last, step_fits, step_rises}
 use Rattle.windows.proofs.prev_slot.PrevSlot.kept.Goals.{in-Some+in_ok-push_step, in_default}

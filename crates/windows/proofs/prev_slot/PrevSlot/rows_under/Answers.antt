@@ -1,5 +1,4 @@
-use Rattle.windows.proofs.Vocabulary.{◌∙◌, ◌↔◌, sym, false≢true, IfOk-weaker, Valuation, AgreesWhereBound}
-use Rattle.windows.proofs.Vocabulary.{HasValuation, GivesLast}
+use Rattle.windows.proofs.Vocabulary.{◌∙◌, ◌↔◌, sym, false≢true, IfOk-weaker, Valuation, AgreesWhereBound, HasValuation, GivesLast}
 use Rattle.windows.proofs.RowAnswerLemmas.{slot_given, slot_not_given}
 use Rattle.windows.proofs.SlotLemmas.{not_given, none_given}
 use Rattle.windows.proofs.prev_slot.PrevSlot.rows_under.Goals.{in-Some+else-has, in_default}

@@ -1,5 +1,4 @@
-use Rattle.windows.proofs.Vocabulary.{rules, arith, subst, sym, Contains, Contains-permutation}
-use Rattle.windows.proofs.Vocabulary.{IsNonDecreasingBy-from_sort_by_key, IsPermutation-sym, IsStepQueue, LastStep}
+use Rattle.windows.proofs.Vocabulary.{rules, arith, subst, sym, Contains, Contains-permutation, IsNonDecreasingBy-from_sort_by_key, IsPermutation-sym, IsStepQueue, LastStep}
 use Rattle.windows.proofs.QueueLemmas.{sorted_steps}
 use Rattle.windows.proofs.queue.StepQueue.from_steps.Goals as goal
 

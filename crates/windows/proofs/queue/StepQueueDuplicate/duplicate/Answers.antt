@@ -1,5 +1,5 @@
 use Rattle.windows.proofs.Vocabulary.{sym, subst, deque_iter_rest, IsStepQueue}
-use Rattle.windows.proofs.CopyLemmas.{all_pushed, next_pushed}
+use Rattle.windows.proofs.ListSteps.{all_pushed, next_pushed}
 use Rattle.windows.proofs.queue.StepQueueDuplicate.duplicate.Goals as goal
 
 pub loop-step-preserved : goal.loop-step-preserved

@@ -1,7 +1,5 @@
-use Rattle.windows.proofs.Vocabulary.{◌≡◌, ◌∙◌, ◌↔◌, ◌⊎◌, [], IsTrue, List, All, Contains}
-use Rattle.windows.proofs.Vocabulary.{length, sym, ap, subst, IsIn, Valuation, Value, ok_both, AgreesWhereBound}
-use Rattle.windows.proofs.Vocabulary.{HasValuation, GivesRow, are_cells_as_bound, cells, SurvivesUnder, AnswersBy}
-use Rattle.windows.proofs.Vocabulary.{FitsColumns, SurvivesFor}
+use Rattle.windows.proofs.Vocabulary.{◌≡◌, ◌∙◌, ◌↔◌, ◌⊎◌, [], IsTrue, List, All, Contains, length, sym, ap, subst, IsIn, Valuation, Value, ok_both, AgreesWhereBound, HasValuation, GivesRow}
+use Rattle.windows.proofs.Vocabulary.{are_cells_as_bound, cells, SurvivesUnder, AnswersBy, FitsColumns, SurvivesFor}
 use Rattle.windows.proofs.BoundAnswerLemmas.{answer_under, long_under}
 use Rattle.windows.proofs.WindowLemmas.{fit_all}
 use Rattle.windows.proofs.since.SinceWindow.agreeing.Given.{Over}

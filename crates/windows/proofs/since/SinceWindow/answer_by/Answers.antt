@@ -1,6 +1,5 @@
-use Rattle.windows.proofs.Vocabulary.{◌≡◌, ◌∙◌, ◌↔◌, ◌⊎◌, ⊎_elim, List, All, Contains, length}
-use Rattle.windows.proofs.Vocabulary.{sym, ap, subst, Valuation, Value, ok_both, none_in_nil, table_row-length}
-use Rattle.windows.proofs.Vocabulary.{HasValuation, GivesRow, RowSurvives, AnswersBy, FitsColumns, SurvivesFor}
+use Rattle.windows.proofs.Vocabulary.{◌≡◌, ◌∙◌, ◌↔◌, ◌⊎◌, ⊎_elim, List, All, Contains, length, sym, ap, subst, Valuation, Value, ok_both, none_in_nil, table_row-length, HasValuation, GivesRow}
+use Rattle.windows.proofs.Vocabulary.{RowSurvives, AnswersBy, FitsColumns, SurvivesFor}
 use Rattle.windows.proofs.WindowLemmas.{answer_rows, fit_all, given_fits}
 use Rattle.windows.proofs.since.SinceWindow.answer_by.Goals as goal
 

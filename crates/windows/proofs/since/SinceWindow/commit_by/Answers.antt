@@ -1,5 +1,4 @@
-use Rattle.windows.proofs.Vocabulary.{◌∙◌, ◌≤◌, Contains, length, sym, ap, subst, arith, on_ok_weaker}
-use Rattle.windows.proofs.Vocabulary.{AreWindowEntries, FitsColumns}
+use Rattle.windows.proofs.Vocabulary.{◌∙◌, ◌≤◌, Contains, length, sym, ap, subst, arith, on_ok_weaker, AreWindowEntries, FitsColumns}
 use Rattle.windows.proofs.EntryLemmas.{kept_fewer, kept_later, least_fewer}
 use Rattle.windows.proofs.QueueLemmas.{queued_added, queued_fewer}
 use Rattle.windows.proofs.WindowLemmas.{is_committed_in}

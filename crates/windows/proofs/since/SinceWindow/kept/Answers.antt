@@ -1,9 +1,7 @@
-use Rattle.windows.proofs.Vocabulary.{◌≡◌, length, take, sym, subst, ap, Less, take_all, row_cmp, ArePairsOf}
-use Rattle.windows.proofs.Vocabulary.{KeepsLeast}
+use Rattle.windows.proofs.Vocabulary.{◌≡◌, length, take, sym, subst, ap, Less, take_all, row_cmp, ArePairsOf, KeepsLeast}
 use Rattle.std.specs.List.Sorted.{IsStrictlySortedBy}
 use Rattle.windows.proofs.EntryLemmas.{next_of}
-use Rattle.windows.proofs.PairLemmas.{ArePairsOfRows, are_keepable, are_kept, are_pairs, before_place, no_rows_yet}
-use Rattle.windows.proofs.PairLemmas.{row_more, rows_rise}
+use Rattle.windows.proofs.PairLemmas.{ArePairsOfRows, are_keepable, are_kept, are_pairs, before_place, no_rows_yet, row_more, rows_rise}
 use Rattle.windows.proofs.WindowLemmas.{window_least}
 use Rattle.windows.proofs.since.SinceWindow.kept.Goals.{After-drop-rows-inside-3}
 use Rattle.windows.proofs.since.SinceWindow.kept.Goals as goal

@@ -1,5 +1,4 @@
-use Rattle.windows.proofs.Vocabulary.{◌≡◌, ◌∙◌, None, Some, map, ap, sym, subst, lookup, option_copied}
-use Rattle.windows.proofs.Vocabulary.{cells, cells_eq}
+use Rattle.windows.proofs.Vocabulary.{◌≡◌, ◌∙◌, None, Some, map, ap, sym, subst, lookup, option_copied, cells, cells_eq}
 use Rattle.windows.proofs.RowAnswerLemmas.{found, nothing}
 use Rattle.windows.proofs.since.SinceWindow.remembers.Goals as goal
 

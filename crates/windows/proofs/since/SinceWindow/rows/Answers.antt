@@ -1,5 +1,4 @@
-use Rattle.windows.proofs.Vocabulary.{◌≡◌, ◌∙◌, ◌↔◌, ⊎_elim, ℕ, All, Contains, length, sym, subst}
-use Rattle.windows.proofs.Vocabulary.{Valuation, ok_both, none_in_nil, HasValuation, HasRow, IsWalkedLater, WindowKeeps}
+use Rattle.windows.proofs.Vocabulary.{◌≡◌, ◌∙◌, ◌↔◌, ⊎_elim, ℕ, All, Contains, length, sym, subst, Valuation, ok_both, none_in_nil, HasValuation, HasRow, IsWalkedLater, WindowKeeps}
 use Rattle.windows.proofs.WindowLemmas.{fit_all, had_rows, kept_rows, key_fits, walked_later}
 use Rattle.windows.proofs.since.SinceWindow.rows.Goals as goal
 

@@ -1,6 +1,5 @@
-use Rattle.windows.proofs.Vocabulary.{◌≡◌, ◌∙◌, ◌↔◌, IsTrue, map, Some, ap, subst, IfSome}
-use Rattle.windows.proofs.Vocabulary.{HasNoRepeats, Valuation, ok_both, AgreesWithRow, AgreesWhereBound, HasValuation}
-use Rattle.windows.proofs.Vocabulary.{cells, AnswersBy, SurvivesFor}
+use Rattle.windows.proofs.Vocabulary.{◌≡◌, ◌∙◌, ◌↔◌, IsTrue, map, Some, ap, subst, IfSome, HasNoRepeats, Valuation, ok_both, AgreesWithRow, AgreesWhereBound, HasValuation, cells, AnswersBy}
+use Rattle.windows.proofs.Vocabulary.{SurvivesFor}
 use Rattle.windows.proofs.RowAnswerLemmas.{rows_of_one}
 use Rattle.windows.proofs.since.SinceWindow.rows_under.Goals as goal
 

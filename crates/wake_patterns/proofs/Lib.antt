@@ -1,0 +1,4 @@
+pub mod Vocabulary
+pub mod CaseLemmas
+pub mod PatternLemmas
+pub mod PlanLemmas

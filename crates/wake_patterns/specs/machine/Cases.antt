@@ -1,0 +1,34 @@
+-- Small patterns, on which the definitions can be checked by eye.
+use Rattle.enf_data.specs.declared.values.Value.{Value}
+use Rattle.enf_data.specs.declared.values.Value.TheVariants.{Num}
+use Rattle.std.specs.Prelude.{[], ◌∷◌, None, Some, pos}
+use Rattle.enf_formula.specs.machine.Cases.{name_p, name_q}
+use Rattle.plan_terms.specs.meaning.Plans.{Plan, SuppressPlan}
+use Rattle.sleepers.specs.declared.patterns.Pattern.{Pattern}
+
+-- the values 1 and 2
+abbrev pub value_one : Value
+value_one = Num (pos 1)
+
+abbrev pub value_two : Value
+value_two = Num (pos 2)
+
+-- q() is not to be there
+abbrev pub no_q : Plan
+no_q = SuppressPlan 1 0 name_q []
+
+-- p(), q(), p and q of one value, and q of a known one
+abbrev pub p_alone : Pattern
+p_alone = record { name = name_p; args = [] }
+
+abbrev pub q_alone : Pattern
+q_alone = record { name = name_q; args = [] }
+
+abbrev pub p_open : Pattern
+p_open = record { name = name_p; args = None ∷ [] }
+
+abbrev pub q_open : Pattern
+q_open = record { name = name_q; args = None ∷ [] }
+
+abbrev pub q_fixed : Value → Pattern
+q_fixed value = record { name = name_q; args = Some value ∷ [] }
