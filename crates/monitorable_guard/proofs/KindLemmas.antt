@@ -1,6 +1,7 @@
 -- The kinds of formulas that remain.
 use Rattle.monitorable_guard.proofs.Vocabulary.{◌≡◌, ℕ, ⊎_elim, List, Some, Box, refl, Global, NameId, Interval, Term, VarId, tree_of, Safe, SafeBelow, FreeWithin}
 use Rattle.monitorable_guard.proofs.SafetyLaws.{below_within, historically_within}
+use Rattle.monitorable_guard.specs.machine.Reordering.{conjuncts_from, only_formula}
 use Rattle.enf_formula.specs.declared.formulas.Formula as stored
 
 -- what is safe and none of these has no open variable
@@ -46,3 +47,9 @@ below_kind (stored.Forall' place ys r g) a i n xs B safe = absurd (a place ys (r
 below_kind (stored.Implies' place r g t h) a i n xs B safe = absurd (i place (record { ptr = r.ptr; alloc = r.alloc; value = g }) (record { ptr = t.ptr; alloc = t.alloc; value = h }) refl)
 below_kind (stored.Not' place r g) a i n xs B safe = absurd (n place (record { ptr = r.ptr; alloc = r.alloc; value = g }) refl)
 below_kind f a i n xs B safe = absurd safe
+
+-- what is no conjunction is its only conjunct
+pub lone_conjunct : (f : stored.Formula) → ((place : ℕ) (a b : Box stored.Formula Global) → f ≡ stored.And place a b → ⊥) → (first : ℕ)
+    → conjuncts_from first (tree_of f) ≡ only_formula first (tree_of f)
+lone_conjunct (stored.And' place r g t h) n first = absurd (n place (record { ptr = r.ptr; alloc = r.alloc; value = g }) (record { ptr = t.ptr; alloc = t.alloc; value = h }) refl)
+lone_conjunct f n first = refl

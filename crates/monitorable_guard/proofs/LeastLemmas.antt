@@ -1,7 +1,7 @@
 -- What goes on from a valuation and gives terms their values, by the least one that does.
 use Rattle.monitorable_guard.proofs.Vocabulary.{◌≡◌, ◌⊎◌, ⊎_elim, List, Option, None, Some, IsSome, Contains, refl, sym, ap, subst, ◌∙◌, same_Some, none-some, MatchOption-at_some, Valuation}
 use Rattle.monitorable_guard.proofs.Vocabulary.{value_of_term, Term, Var, VarId, Value, AreSameValues-some, AreSameValues-sym, AreSameValues, Classically, AgreeOnColumns, IsBoundBy, IsEquated}
-use Rattle.monitorable_guard.proofs.Vocabulary.{IsMatchOf, IsValued, IsLeastFor, IsLeastMatch}
+use Rattle.monitorable_guard.proofs.Vocabulary.{IsMatchOf, IsValued, IsLeastFor, IsLeastMatch, HasNoMatch, Extends, IfNone, IsTrue, is_some, ◌↔◌, [], false≢true, none_in_nil}
 use Rattle.std.specs.Option.{IfSome}
 use Rattle.monitorable_guard.proofs.EvaluationLemmas.{bound_on, same_on, terms_bound}
 use Rattle.monitorable_guard.proofs.MatchLemmas.{value_of-extends}
@@ -34,6 +34,18 @@ least_of terms values copy v found m same is told = subst (λ u. IsLeastMatch te
 pub least_value : (term : Term) (value : Value) (copy v : Valuation) (found : Option Valuation) (m : Valuation) → copy ≡ v → found ≡ Some m
     → IfSome found (IsLeastFor term value copy) → IsLeastFor term value v m
 least_value term value copy v found m same is told = subst (λ u. IsLeastFor term value u m) same (MatchOption-at_some _ (IsLeastFor term value copy) m is told)
+
+-- whether one was found tells whether there is one
+pub match_some : (terms : List Term) (values : List Value) (copy v : Valuation) (found : Option Valuation) → copy ≡ v → IfSome found (IsLeastMatch terms values copy)
+    → IfNone found (HasNoMatch terms values copy) → IsTrue (is_some found) ↔ ((w : Valuation) × IsMatchOf terms values v [] w)
+match_some terms values copy v None same some none = (
+  λ t. absurd (false≢true t),
+  λ m. absurd (none m.1.0 (subst (λ u. Extends u m.1.0) (sym same) m.1.1) m.1.2),
+)
+match_some terms values copy v (Some m) same some none = (
+  λ _. (m, (m, subst (λ u. Extends u m) same some.extends, some.has, λ x there. absurd (none_in_nil x there))),
+  λ _. refl,
+)
 
 -- ---- where one of two terms has a value
 

@@ -1,5 +1,7 @@
 pub mod Vocabulary
 pub mod AgreementLemmas
+pub mod AnswerLemmas
+pub mod AskedGuards
 pub mod CaseLemmas
 pub mod ConditionLemmas
 pub mod CycleLemmas
@@ -16,12 +18,18 @@ pub mod KnownValues
 pub mod LeastLemmas
 pub mod ListedValues
 pub mod MatchLemmas
+pub mod OrderedLemmas
+pub mod OrderedSafety
 pub mod PairLemmas
 pub mod PartLemmas
 pub mod PastLemmas
 pub mod PresentLemmas
+pub mod ReorderingLemmas
+pub mod ReorderingParts
 pub mod RowLists
 pub mod RowsLemmas
+pub mod SafetyGrowth
 pub mod SafetyLaws
 pub mod SafetyLemmas
 pub mod ScopeLemmas
+pub mod TurnLemmas

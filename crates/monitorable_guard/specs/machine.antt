@@ -6,5 +6,7 @@ pub mod Answers
 pub mod Cases
 pub mod EventOrder
 pub mod Guards
+pub mod Reordering
+pub mod AskingOrder
 pub mod SatisfyingRows
 pub mod Laws

@@ -1,6 +1,7 @@
 //! Atoms and comparisons: the valuations under which they hold, and whether they hold under one.
-ghost use Rattle.std.specs.Prelude.{◌≡◌, ◌↔◌, ◌⊎◌, ◌<ℤ◌, ◌≤ℤ◌, OnOk, IsSome, IsTrue};
-ghost use Rattle.std.specs.Prelude.{Contains};
+ghost use Rattle.std.specs.Prelude.{◌≡◌, ◌↔◌, ◌⊎◌, ◌<ℤ◌, ◌≤ℤ◌, IfOk, OnOk};
+ghost use Rattle.std.specs.Prelude.{[], IsSome, IsTrue, Contains};
+ghost use Rattle.enf_data.specs.meaning.Valuations.{Valuation as Bound};
 ghost use Rattle.enf_data.specs.meaning.Valuations.{value_of_term};
 ghost use Rattle.enf_data.specs.declared.terms.Term.TheVariants.{Var as Variable};
 ghost use Rattle.enf_data.specs.declared.terms.VarId.{VarId as AnyVariable};
@@ -39,6 +40,38 @@ pub fn gather_events<'a>(
         gather_match(alloc, terms, event.args.as_slice(), scope, columns, out)?;
     }
     Ok(())
+}
+
+// Whether there is such a valuation: the first event that the terms match is enough.
+pub fn has_match<'a>(
+    alloc: Global,
+    events: &[&'a Event],
+    terms: &[Term],
+    scope: &'a Frame<'a>,
+) -> Result<bool, NoMemory>
+    ensures { IfOk result (λ there. IsTrue there ↔ ((w : Bound)
+        × IsMatchAmong (shown_events events.now) terms.now (bound_in scope.now) [] w)) }
+{
+    for event in events {
+        if has_values(alloc, terms, event.args.as_slice(), scope)? {
+            return Ok(true);
+        }
+    }
+    Ok(false)
+}
+
+// Whether there is a valuation under which the terms have these values.
+fn has_values<'a>(
+    alloc: Global,
+    terms: &[Term],
+    values: &'a [Value],
+    scope: &'a Frame<'a>,
+) -> Result<bool, NoMemory>
+    ensures { IfOk result (λ there. IsTrue there
+        ↔ ((w : Bound) × IsMatchOf terms.now values.now (bound_in scope.now) [] w)) }
+{
+    let found = matched(terms, values, Scope::over(alloc, scope))?;
+    Ok(found.is_some())
 }
 
 // Adds the row of the valuation under which the terms have these values, where there is one.

@@ -2,18 +2,18 @@
 ghost use Rattle.std.specs.Prelude.{◌≡◌, ◌↔◌, ◌<◌, ◌^◌, ◌⊎◌, ℕ, List, [], OnOk, IfOk};
 ghost use Rattle.std.specs.Prelude.{IsTrue, Contains, drop, length};
 ghost use Rattle.enf_formula.specs.machine.FormulaViews.{tree_of};
-ghost use Rattle.enf_data.specs.meaning.Valuations.{Valuation as Bound};
 ghost use Rattle.enf_data.specs.declared.terms.VarId.{VarId as Variable};
 ghost use Rattle.enf_data.specs.declared.values.Value.{Value as AnyValue};
 ghost use Rattle.valuations.specs.machine.Bindings.{bound_in, filled_from_row};
 ghost use Rattle.valuations.specs.machine.Tables.{IsTable};
-ghost use Rattle.monitorable_guard.specs.machine.Answers.{AddsRows, IsSolution, AreBoundOrFree, AreOpenUnder};
-ghost use Rattle.monitorable_guard.specs.machine.Answers.{CanAskFormula, HasAnswers, IsGuardAnswer, IsBoundBy};
+ghost use Rattle.monitorable_guard.specs.machine.Answers.{AddsRows, AreBoundOrFree, AreOpenUnder};
+ghost use Rattle.monitorable_guard.specs.machine.Answers.{CanAskFormula, HasAnswers, HasSolution};
+ghost use Rattle.monitorable_guard.specs.machine.Answers.{IsGuardAnswer, IsBoundBy};
 ghost use Rattle.monitorable_guard.specs.machine.PresentMeaning.{HoldsNow, tables_beyond};
 ghost use Rattle.monitorable_guard.specs.meaning.Safety.{FreeWithin};
 ghost use Rattle.enf_formula.specs.meaning.Satisfaction as tree;
 
-use crate::atoms::{gather_equal, gather_events, is_at_most, is_equal, is_less};
+use crate::atoms::{gather_equal, gather_events, has_match, is_at_most, is_equal, is_less};
 use crate::events::StepEvents;
 use crate::operators::{is_closed, is_closed_under, open_variables, operators};
 use crate::past_tables::Past;
@@ -260,7 +260,7 @@ fn gather_either<'a, P: Past>(
     gather(alloc, present, h, first + operators(g), scope, columns, out)
 }
 
-// Whether there is such a valuation.
+// Whether there is such a valuation; the first that is found is enough.
 #[cycle(evaluation)]
 fn has_answer<'a, P: Past>(
     alloc: Global,
@@ -272,12 +272,144 @@ fn has_answer<'a, P: Past>(
     requires few { length (P.tables present.now.past.now) < 2 ^ 64 }
     requires ask { CanAskFormula (bound_in scope.now) (drop first (P.tables present.now.past.now))
         (tree_of formula.now) }
-    ensures { IfOk result (λ there. IsTrue there ↔ ((u : Bound) × IsSolution present.now.events.now
-        (drop first (P.tables present.now.past.now)) (bound_in scope.now) (tree_of formula.now) u)) }
+    ensures { IfOk result (λ there. IsTrue there ↔ HasSolution present.now.events.now
+        (drop first (P.tables present.now.past.now)) (bound_in scope.now) (tree_of formula.now)) }
 {
-    let mut found = Vec::new(alloc);
-    gather(alloc, present, formula, first, scope, &[], &mut found)?;
-    Ok(!found.is_empty())
+    let closed = is_closed(alloc, formula, scope)?;
+    has_known_answer(alloc, present, formula, first, scope, closed)
+}
+
+// Whether there is one, where it is known whether each free variable has a value.
+#[cycle(evaluation)]
+fn has_known_answer<'a, P: Past>(
+    alloc: Global,
+    present: &Present<'_, '_, '_, P>,
+    formula: &Formula,
+    first: usize,
+    scope: &'a Frame<'a>,
+    closed: bool,
+) -> Result<bool, NoMemory>
+    requires few { length (P.tables present.now.past.now) < 2 ^ 64 }
+    requires ask { CanAskFormula (bound_in scope.now) (drop first (P.tables present.now.past.now))
+        (tree_of formula.now) }
+    requires known { IsTrue closed ↔ FreeWithin (tree_of formula.now) (IsBoundBy (bound_in scope.now)) }
+    ensures { IfOk result (λ there. IsTrue there ↔ HasSolution present.now.events.now
+        (drop first (P.tables present.now.past.now)) (bound_in scope.now) (tree_of formula.now)) }
+{
+    if closed {
+        holds(alloc, present, formula, first, scope)
+    } else {
+        has_open_answer(alloc, present, formula, first, scope)
+    }
+}
+
+// Whether there is one of a formula with a free variable that has no value.
+#[cycle(evaluation)]
+fn has_open_answer<'a, P: Past>(
+    alloc: Global,
+    present: &Present<'_, '_, '_, P>,
+    formula: &Formula,
+    first: usize,
+    scope: &'a Frame<'a>,
+) -> Result<bool, NoMemory>
+    requires few { length (P.tables present.now.past.now) < 2 ^ 64 }
+    requires ask { CanAskFormula (bound_in scope.now) (drop first (P.tables present.now.past.now))
+        (tree_of formula.now) }
+    requires open { FreeWithin (tree_of formula.now) (IsBoundBy (bound_in scope.now)) → ⊥ }
+    ensures { IfOk result (λ there. IsTrue there ↔ HasSolution present.now.events.now
+        (drop first (P.tables present.now.past.now)) (bound_in scope.now) (tree_of formula.now)) }
+{
+    match formula {
+        Formula::Atom(_, name, terms) => {
+            let terms = terms.as_slice();
+            let events = present.events.under(*name, terms, &*scope);
+            has_match(alloc, events, terms, &*scope)
+        }
+        Formula::And(_, g, h) => has_both(alloc, present, g, h, first, scope),
+        Formula::Or(_, g, h) => has_either(alloc, present, g, h, first, scope),
+        Formula::Exists(_, _, g) => has_answer(alloc, present, g, first, scope),
+        Formula::Prev(_, _, _) | Formula::Once(_, _, _) | Formula::Since(_, _, _, _) => {
+            present.past.has_some(alloc, first, scope)
+        }
+        _ => {
+            let mut found = Vec::new(alloc);
+            gather_open(alloc, present, formula, first, scope, &[], &mut found)?;
+            Ok(!found.is_empty())
+        }
+    }
+}
+
+#[cycle(evaluation)]
+fn has_both<'a, P: Past>(
+    alloc: Global,
+    present: &Present<'_, '_, '_, P>,
+    g: &Formula,
+    h: &Formula,
+    first: usize,
+    scope: &'a Frame<'a>,
+) -> Result<bool, NoMemory>
+    requires few { length (P.tables present.now.past.now) < 2 ^ 64 }
+    requires ask { (place : ℕ) × CanAskFormula (bound_in scope.now) (drop first (P.tables present.now.past.now))
+        (tree.And place (tree_of g.now) (tree_of h.now)) }
+    ensures { IfOk result (λ there. (place : ℕ) → IsTrue there ↔ HasSolution present.now.events.now
+        (drop first (P.tables present.now.past.now)) (bound_in scope.now)
+        (tree.And place (tree_of g.now) (tree_of h.now))) }
+{
+    let left = rows(alloc, present, g, first, scope)?;
+    let next = first + operators(g);
+    has_answer_under(alloc, present, h, next, &left, &*scope)
+}
+
+// Whether there is one under some row of the table.
+#[cycle(evaluation)]
+fn has_answer_under<'a, P: Past>(
+    alloc: Global,
+    present: &Present<'_, '_, '_, P>,
+    formula: &Formula,
+    first: usize,
+    table: &'a Table,
+    scope: &'a Frame<'a>,
+) -> Result<bool, NoMemory>
+    requires few { length (P.tables present.now.past.now) < 2 ^ 64 }
+    requires table { IsTable table.now }
+    requires ask { (row : List AnyValue) → Contains table.now.rows row
+        → CanAskFormula (filled_from_row (bound_in scope.now) table.now.columns row)
+        (drop first (P.tables present.now.past.now)) (tree_of formula.now) }
+    ensures { IfOk result (λ there. IsTrue there ↔ ((row : List AnyValue) × Contains table.now.rows row
+        × HasSolution present.now.events.now (drop first (P.tables present.now.past.now))
+        (filled_from_row (bound_in scope.now) table.now.columns row) (tree_of formula.now))) }
+{
+    let closed = is_closed_under(alloc, formula, table, &*scope)?;
+    for row in table.rows() {
+        let inner = Frame::Row(&*scope, table.columns().as_slice(), row.as_slice());
+        if has_known_answer(alloc, present, formula, first, &inner, closed)? {
+            return Ok(true);
+        }
+    }
+    Ok(false)
+}
+
+#[cycle(evaluation)]
+fn has_either<'a, P: Past>(
+    alloc: Global,
+    present: &Present<'_, '_, '_, P>,
+    g: &Formula,
+    h: &Formula,
+    first: usize,
+    scope: &'a Frame<'a>,
+) -> Result<bool, NoMemory>
+    requires few { length (P.tables present.now.past.now) < 2 ^ 64 }
+    requires ask { (place : ℕ) × CanAskFormula (bound_in scope.now) (drop first (P.tables present.now.past.now))
+        (tree.Or place (tree_of g.now) (tree_of h.now)) }
+    ensures { IfOk result (λ there. (place : ℕ) → IsTrue there ↔ HasSolution present.now.events.now
+        (drop first (P.tables present.now.past.now)) (bound_in scope.now)
+        (tree.Or place (tree_of g.now) (tree_of h.now))) }
+{
+    if has_answer(alloc, present, g, first, scope)? {
+        Ok(true)
+    } else {
+        has_answer(alloc, present, h, first + operators(g), scope)
+    }
 }
 
 // Whether the formula holds under the scope, which has a value for each free variable.

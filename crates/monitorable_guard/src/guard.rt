@@ -11,12 +11,14 @@ ghost use Rattle.monitorable_guard.specs.meaning.Safety.{FreeWithin, Safe, IsTes
 ghost use Rattle.monitorable_guard.specs.machine.PresentMeaning.{HoldsNow};
 ghost use Rattle.monitorable_guard.specs.machine.Guards.{RefusesGuard};
 
+use crate::asked::Asked;
 use crate::conditions::{fits, is_fresh};
 use crate::evaluation::{Present, holds, rows_over};
 use crate::events::StepEvents;
 use crate::guard_rows::{Rows, are_variables, told};
 use crate::operators::{are_bound, open_beside};
-use crate::past_tables::{Past, PastTables};
+use crate::order::asked_under;
+use crate::past_tables::{Past, PastTables, Renumbered};
 use crate::safety::is_safe;
 use crate::scopes::{is_free_within, with_free};
 use enf_data::event_sets::EventSet;
@@ -54,6 +56,7 @@ pub struct Guard {
     bound: Vars,
     // the free variables that are not bound: the columns of each evaluation
     columns: Vars,
+    asked: Asked,
 }
 
 impl Model for Guard {
@@ -61,6 +64,7 @@ impl Model for Guard {
     ghost use Rattle.enf_formula.specs.machine.FormulaViews.{tree_of};
     ghost use Rattle.monitorable_guard.specs.machine.Evaluation.{AreOpen};
     ghost use Rattle.monitorable_guard.specs.machine.Guards.{BoundFormula, bound_formula_code};
+    ghost use Rattle.monitorable_guard.specs.machine.Reordering.{IsReordered, only_formula};
     ghost use Rattle.monitorable_guard.specs.meaning.Safety.{Safe};
 
     ghost Value = { BoundFormula };
@@ -70,7 +74,9 @@ impl Model for Guard {
     ghost view = { λ g. record { formula = g.formula; bound = g.bound } };
 
     ghost invariant = { λ g. Safe (tree_of g.formula) (Contains g.bound)
-        × AreOpen (tree_of g.formula) g.bound g.columns };
+        × AreOpen (tree_of g.formula) g.bound g.columns
+        × IsReordered (only_formula 0 (tree_of g.formula)) (tree_of g.asked.formula) g.asked.numbers.items
+        × Safe (tree_of g.asked.formula) (Contains g.bound) };
 }
 
 impl Guard {
@@ -82,11 +88,13 @@ impl Guard {
     {
         if is_safe(alloc, &formula, bound.as_slice())? {
             let columns = open_beside(alloc, &formula, bound.as_slice())?;
+            let asked = asked_under(alloc, &formula, bound.as_slice())?;
             let bound = bound.duplicate(alloc)?;
             Ok(Guard {
                 formula,
                 bound,
                 columns,
+                asked,
             })
         } else {
             Err(GuardRefusal::Unguarded {
@@ -206,12 +214,16 @@ impl Guard {
         ensures known { IfOk result (HasKnownValues events.now (P.tables past.now)
             (tree_of self.now.formula) self.now.bound (bound_in v.now)) }
     {
+        let scope = Frame::Part(v, self.bound().as_slice());
+        let past = &Renumbered {
+            past,
+            numbers: self.asked.numbers.as_slice(),
+        };
         // so many that a usize counts them
         let _tables = past.count();
-        let scope = Frame::Part(v, self.bound().as_slice());
         let present = Present { events, past };
         let columns = self.columns().duplicate(alloc)?;
-        rows_over(alloc, &present, self.formula(), 0, &scope, columns)
+        rows_over(alloc, &present, &self.asked.formula, 0, &scope, columns)
     }
 
     /// The rows of the formula under a frame, where the arguments of the events of an atom stay where they are, if
@@ -275,11 +287,15 @@ impl Guard {
         ensures { IfOk result (λ holds. IsTrue holds ↔ HoldsNow events.now (P.tables past.now)
             (bound_in v.now) (tree_of self.now.formula)) }
     {
+        let scope = Frame::Part(v, self.bound().as_slice());
+        let past = &Renumbered {
+            past,
+            numbers: self.asked.numbers.as_slice(),
+        };
         // so many that a usize counts them
         let _tables = past.count();
-        let scope = Frame::Part(v, self.bound().as_slice());
         let present = Present { events, past };
-        holds(alloc, &present, self.formula(), 0, &scope)
+        holds(alloc, &present, &self.asked.formula, 0, &scope)
     }
 }
 

@@ -2,6 +2,7 @@
 //! they hold. It stands on `valuations` and `enf_formula`.
 #![tactic(auto)]
 
+mod asked;
 mod atom_matches;
 mod atoms;
 mod conditions;
@@ -11,6 +12,7 @@ pub mod guard;
 pub mod guard_rows;
 pub mod laws;
 mod operators;
+mod order;
 pub mod past_tables;
 mod safety;
 mod scope_rows;

@@ -45,6 +45,34 @@ pub fn operators(formula: &Formula) -> usize
     }
 }
 
+// How many there are, where a usize can say it: no memory has room for a number of each otherwise.
+pub fn counted(formula: &Formula) -> Result<usize, NoMemory>
+    ensures { IfOk result (λ count. count ≡ length (outermost (tree_of formula.now))) }
+{
+    match formula {
+        Formula::True(_)
+        | Formula::False(_)
+        | Formula::Atom(_, _, _)
+        | Formula::Equal(_, _, _)
+        | Formula::Less(_, _, _)
+        | Formula::AtMost(_, _, _)
+        | Formula::Next(_, _, _)
+        | Formula::Eventually(_, _, _)
+        | Formula::Always(_, _, _)
+        | Formula::Until(_, _, _, _) => Ok(0),
+        Formula::Not(_, g) | Formula::Exists(_, _, g) | Formula::Forall(_, _, g) => counted(g),
+        Formula::And(_, g, h) | Formula::Or(_, g, h) | Formula::Implies(_, g, h) => {
+            let left = counted(g)?;
+            let right = counted(h)?;
+            left.checked_add(right).ok_or(NoMemory)
+        }
+        Formula::Prev(_, _, _)
+        | Formula::Once(_, _, _)
+        | Formula::Historically(_, _, _)
+        | Formula::Since(_, _, _, _) => Ok(1),
+    }
+}
+
 // The free variables that have no value, in rising order.
 pub fn open_variables(alloc: Global, formula: &Formula, scope: &Frame<'_>) -> Result<Vars, NoMemory>
     ensures { IfOk result (AreOpenUnder (bound_in scope.now) (tree_of formula.now)) }

@@ -1,8 +1,9 @@
 //! How a guard asks for the past.
-ghost use Rattle.std.specs.Prelude.{◌≡◌, ◌↔◌, ◌<◌, IsTrue, IfOk, List, drop, length};
+ghost use Rattle.std.specs.Prelude.{ℕ, ◌≡◌, ◌↔◌, ◌<◌, IsTrue, IfOk, List, Contains, drop, length};
 ghost use Rattle.valuations.specs.machine.Tables.{Relation, IsTable};
-ghost use Rattle.monitorable_guard.specs.machine.Evaluation.{FirstGivesUnder};
+ghost use Rattle.monitorable_guard.specs.machine.Evaluation.{FirstGivesUnder, FirstHasUnder};
 ghost use Rattle.monitorable_guard.specs.machine.PresentMeaning.{FirstHas};
+ghost use Rattle.monitorable_guard.specs.machine.Reordering.{renumbered};
 
 use enf_data::memory::NoMemory;
 use std::alloc::Global;
@@ -32,6 +33,17 @@ pub trait Past {
         requires { operator < length (tables self.now) }
         ensures table { IfOk result IsTable }
         ensures rows { IfOk result (FirstGivesUnder (drop operator (tables self.now)) (V.valuation v.now)) };
+
+    /// Whether there is a row that agrees with the valuation on each column that it binds: asked of these rows, where
+    /// it is not known otherwise.
+    fn has_some<V: Lookup>(&self, alloc: Global, operator: usize, v: &V) -> Result<bool, NoMemory>
+        requires { operator < length (tables self.now) }
+        ensures { IfOk result (λ some. IsTrue some
+            ↔ FirstHasUnder (drop operator (tables self.now)) (V.valuation v.now)) }
+    {
+        let rows = self.rows_under(alloc, operator, v)?;
+        Ok(!rows.is_empty())
+    }
 }
 
 /// Tables that are there as a list.
@@ -58,5 +70,38 @@ impl Past for PastTables<'_> {
         v: &V,
     ) -> Result<Table, NoMemory> {
         self.tables[operator].rows_under(alloc, v)
+    }
+}
+
+/// Tables in another order: that of an operator is the one at its number.
+#[derive(Drop)]
+pub struct Renumbered<'a, P: Past> {
+    pub past: &'a P,
+    pub numbers: &'a [usize],
+    ghost within: { (n : ℕ) → Contains numbers.now n → n < length (P.tables past.now) },
+}
+
+impl<P: Past> Past for Renumbered<'_, P> {
+    ghost tables = { λ past. renumbered past.numbers.now (P.tables past.past.now) };
+
+    fn count(&self) -> usize {
+        self.numbers.len()
+    }
+
+    fn has<V: Lookup>(&self, operator: usize, v: &V) -> bool {
+        self.past.has(self.numbers[operator], v)
+    }
+
+    fn rows_under<V: Lookup>(
+        &self,
+        alloc: Global,
+        operator: usize,
+        v: &V,
+    ) -> Result<Table, NoMemory> {
+        self.past.rows_under(alloc, self.numbers[operator], v)
+    }
+
+    fn has_some<V: Lookup>(&self, alloc: Global, operator: usize, v: &V) -> Result<bool, NoMemory> {
+        self.past.has_some(alloc, self.numbers[operator], v)
     }
 }

@@ -54,6 +54,10 @@ pub record IsSolution (events : List Event) (tables : List Relation) (v : Valuat
   pub binds : (x : VarId) → IsFree x f → IsBoundBy u x
   pub holds : HoldsNow events tables u f
 
+-- there is such a one
+abbrev pub HasSolution : List Event → List Relation → Valuation → Formula → Type 0
+HasSolution events tables v f = (u : Valuation) × IsSolution events tables v f u
+
 -- w has on the columns the values of such a one
 abbrev pub IsGuardAnswer : List Event → List Relation → Valuation → Formula → List VarId → Valuation
     → Type 0

@@ -18,6 +18,12 @@ FirstGivesUnder (t ∷ tables) v given =
     (given.columns ≡ t.columns) × ((w : Valuation) → HasValuation given w ↔
     (HasValuation t w × AgreesWhereBound t.columns v w))
 
+-- the first of the tables has a valuation that agrees with v on each column that v binds
+abbrev pub FirstHasUnder : List Relation → Valuation → Type 0
+FirstHasUnder [] v = ⊥
+FirstHasUnder (t ∷ tables) v = (w : Valuation) × BindsColumns w t.columns × HasValuation t w
+    × AgreesWhereBound t.columns v w
+
 -- there is a table for each of the operators, whose columns are the operator's free variables
 abbrev pub FitOperators : List Formula → List Relation → Type 0
 FitOperators [] tables = Unit {0}

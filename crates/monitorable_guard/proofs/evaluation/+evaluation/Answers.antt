@@ -1,7 +1,7 @@
 use Rattle.monitorable_guard.proofs.Vocabulary.{◌≡◌, ◌+◌, ◌<◌, inl, inr, ⊎_elim, List, [], ◌++◌, length, get_or, drop, ◌≤◌, IsTrue, Contains, Fits, w64, IfOk, ◌↔◌, refl, sym, ap, subst, ◌∙◌, arith}
 use Rattle.monitorable_guard.proofs.Vocabulary.{rules, false≢true, take_all, IfOk-weaker, Atom, Equal, Exists, Historically, tree_of, rising_distinct, Valuation, variable_cmp_total, Value, Var}
 use Rattle.monitorable_guard.proofs.Vocabulary.{AddsRows, AreBoundOrFree, IsGuardAnswer, IsBoundBy, IsEquated, IsFromRow, IsMatchAmong, CanAskFormula, shown_events, HoldsNow, FirstHas, outermost}
-use Rattle.monitorable_guard.proofs.Vocabulary.{tables_beyond, FreeWithin, none_in_nil, bound_in, filled_from_row}
+use Rattle.monitorable_guard.proofs.Vocabulary.{tables_beyond, FreeWithin, none_in_nil, bound_in, filled_from_row, And, Or}
 use Rattle.monitorable_guard.proofs.PartLemmas.{ask_not, ask_and_left, ask_and_right, ask_or_left, ask_or_right, ask_implies_left, ask_implies_right, ask_exists, ask_none, ask_range, ask_nested}
 use Rattle.monitorable_guard.proofs.PartLemmas.{and_anywhere, or_anywhere, binds_itself}
 use Rattle.monitorable_guard.proofs.CycleLemmas.{closed_where_none, none_where_closed, open_scope, added_fit, ok_answers, ok_open, some_answer, fit_places, closed_scope, adds_test, one_side}
@@ -12,6 +12,8 @@ use Rattle.monitorable_guard.proofs.KindLemmas.{closed_kind, below_kind}
 use Rattle.monitorable_guard.proofs.PastLemmas.{told_fit, told_holds, given_columns}
 use Rattle.monitorable_guard.proofs.PairLemmas.{both_ask, both_scope, adds_both_parts, either_ask, either_scope, adds_either_part, each_ask, each_closed, each_decided, next_tables}
 use Rattle.monitorable_guard.proofs.RowsLemmas.{SomeOf, adds_as, adds_more, adds_nothing, on_ok}
+use Rattle.monitorable_guard.proofs.AnswerLemmas.{ok_closed, ok_atom, some_past, ok_exists_answered, ok_both_answered, first_answered, ok_second_answered, ok_for_each}
+use Rattle.monitorable_guard.specs.machine.Answers.{HasSolution}
 use Rattle.monitorable_guard.proofs.evaluation.+evaluation.Goals as goal
 
 -- ---- gather
@@ -224,16 +226,269 @@ rows_over-returns-clause-rows g t c =
 
 -- ---- has_answer
 
-pub has_answer-gather-requires : goal.has_answer-gather-requires
-has_answer-gather-requires g t c =
-    λ κs lives. (search rules, (search rules, (c.requires.few, (c.requires.ask, λ x there. absurd (none_in_nil x there)))))
+pub has_answer-has_known_answer-requires : goal.has_answer-has_known_answer-requires
+has_answer-has_known_answer-requires g t c = λ κs lives. (search rules, (search rules, (c.requires.few, (c.requires.ask, c.in_ok-closed.ensures))))
 
-pub has_answer-returns : goal.has_answer-returns
-has_answer-returns g t c =
+pub has_known_answer-holds-requires : goal.has_known_answer-holds-requires
+has_known_answer-holds-requires g t c = λ κs lives. (search rules, (search rules, (c.requires.few, (c.requires.ask, c.requires.known.0 c.if-closed.true))))
+
+pub has_known_answer-returns-then-closed : goal.has_known_answer-returns-then-closed
+has_known_answer-returns-then-closed g t c = ok_closed c.args.present.now.events.now (drop c.args.first (g.P.Past.tables c.args.present.now.past.now)) (bound_in c.args.scope.now)
+    (tree_of c.args.formula.now) c.holds.result c.requires.ask.tabled (c.requires.known.0 c.if-closed.true) c.holds.ensures
+
+pub has_known_answer-has_open_answer-requires : goal.has_known_answer-has_open_answer-requires
+has_known_answer-has_open_answer-requires g t c = λ κs lives. (
+  search rules,
+  (
+    search rules,
+    (c.requires.few, (c.requires.ask, λ closed. absurd (false≢true (sym c.if-closed.false ∙ c.requires.known.1 closed)))),
+  ),
+)
+
+pub has_open_answer-returns-in-Atom : goal.has_open_answer-returns-in-Atom
+has_open_answer-returns-in-Atom g t c =
+    rw (c.in-Atom.is, ← c.as_slice-terms.ensures)
+    (ok_atom c.args.present.now.events.now (drop c.args.first (g.P.Past.tables c.args.present.now.past.now)) (bound_in c.args.scope.now) c.in-Atom.field-0 c.in-Atom.name
+    c.as_slice-terms.result.now (shown_events c.under-events.result.now) c.under-events.ensures c.has_match.result c.has_match.ensures)
+
+pub has_open_answer-has_both-requires : goal.has_open_answer-has_both-requires
+has_open_answer-has_both-requires g t c =
+    let ask = rw (c.in-And.is, ← c.deref.ensures, ← c.deref-in-And.ensures) at c.requires.ask in
+    λ κs lives. (search rules, (search rules, (c.requires.few, (c.in-And.field-0, ask))))
+
+pub has_open_answer-returns-in-And : goal.has_open_answer-returns-in-And
+has_open_answer-returns-in-And g t c =
+    rw (c.in-And.is, ← c.deref.ensures, ← c.deref-in-And.ensures) (IfOk-weaker c.has_both.result _ _ (λ b told. told c.in-And.field-0) c.has_both.ensures)
+
+pub has_open_answer-has_either-requires : goal.has_open_answer-has_either-requires
+has_open_answer-has_either-requires g t c =
+    let ask = rw (c.in-Or.is, ← c.deref-in-Or.ensures, ← c.deref-in-Or-2.ensures) at c.requires.ask in
+    λ κs lives. (search rules, (search rules, (c.requires.few, (c.in-Or.field-0, ask))))
+
+pub has_open_answer-returns-in-Or : goal.has_open_answer-returns-in-Or
+has_open_answer-returns-in-Or g t c =
+    rw (c.in-Or.is, ← c.deref-in-Or.ensures, ← c.deref-in-Or-2.ensures) (IfOk-weaker c.has_either.result _ _ (λ b told. told c.in-Or.field-0) c.has_either.ensures)
+
+pub has_open_answer-has_answer-requires : goal.has_open_answer-has_answer-requires
+has_open_answer-has_answer-requires g t c =
+    let ask = rw (c.in-Exists.is, ← c.deref-in-Exists.ensures) at c.requires.ask in
+    λ κs lives. (
+      search rules,
+      (
+        search rules,
+        (
+          c.requires.few,
+          ask_exists (bound_in c.args.scope.now) (drop c.args.first (g.P.Past.tables c.args.present.now.past.now)) c.in-Exists.field-0
+              c.in-Exists.field-1 (tree_of c.deref-in-Exists.result.now) ask,
+        ),
+      ),
+    )
+
+pub has_open_answer-returns-in-Exists : goal.has_open_answer-returns-in-Exists
+has_open_answer-returns-in-Exists g t c =
+    let ask = rw (c.in-Exists.is, ← c.deref-in-Exists.ensures) at c.requires.ask in
+    rw (c.in-Exists.is, ← c.deref-in-Exists.ensures)
+    (ok_exists_answered c.args.present.now.events.now (drop c.args.first (g.P.Past.tables c.args.present.now.past.now)) (bound_in c.args.scope.now) c.in-Exists.field-0 c.in-Exists.field-1
+    (tree_of c.deref-in-Exists.result.now) ask c.has_answer.result c.has_answer.ensures)
+
+pub has_open_answer-has_some-requires : goal.has_open_answer-has_some-requires
+has_open_answer-has_some-requires g t c =
+    fit_first (tree_of c.args.formula.now) (g.P.Past.tables c.args.present.now.past.now) c.args.first
+    (told_fit (drop c.args.first (g.P.Past.tables c.args.present.now.past.now)) c.args.formula.now c.in-Prev.is c.requires.ask.tabled)
+
+pub has_open_answer-returns-in-Prev : goal.has_open_answer-returns-in-Prev
+has_open_answer-returns-in-Prev g t c =
+    let tables = drop c.args.first (g.P.Past.tables c.args.present.now.past.now) in
+    let same = some_past c.args.present.now.events.now (bound_in c.args.scope.now) (tree_of c.args.formula.now) tables
+    (told_fit tables c.args.formula.now c.in-Prev.is c.requires.ask.tabled)
+    (λ u. told_holds tables c.args.present.now.events.now u c.args.formula.now c.in-Prev.is) in
+    IfOk-weaker c.has_some.result _ _ (λ b told. (λ t. same.0 (told.0 t), λ some. told.1 (same.1 some))) c.has_some.ensures
+
+pub has_open_answer-gather_open-requires : goal.has_open_answer-gather_open-requires
+has_open_answer-gather_open-requires g t c =
+    λ κs lives. (search rules, (search rules, (c.requires.few, (c.requires.ask, (λ x there. absurd (none_in_nil x there), c.requires.open)))))
+
+pub has_open_answer-returns-in_ok-gather_open-in_default : goal.has_open_answer-returns-in_ok-gather_open-in_default
+has_open_answer-returns-in_ok-gather_open-in_default g t c =
     some_answer c.args.present.now.events.now (drop c.args.first (g.P.Past.tables c.args.present.now.past.now)) (bound_in c.args.scope.now) (tree_of c.args.formula.now)
-    c.gather.new.out.items c.is_empty.result (subst (λ before. AddsRows [] before c.gather.new.out.items
+    c.gather_open.new.out.items c.is_empty.result (subst (λ before. AddsRows [] before c.gather_open.new.out.items
     (IsGuardAnswer c.args.present.now.events.now (drop c.args.first (g.P.Past.tables c.args.present.now.past.now)) (bound_in c.args.scope.now) (tree_of c.args.formula.now) []))
-    c.new-found.ensures.items c.in_ok-gather.ensures) (none_equal c.gather.new.out.items _ c.is_empty.result c.is_empty.ensures (omega (arith, c.gather.new.out.ok.0)))
+    c.new-found.ensures.items c.in_ok-gather_open-in_default.ensures) (none_equal c.gather_open.new.out.items _ c.is_empty.result c.is_empty.ensures (omega (arith, c.gather_open.new.out.ok.0)))
+
+-- ---- has_both
+
+pub has_both-rows-requires : goal.has_both-rows-requires
+has_both-rows-requires g t c = λ κs lives. (
+  search rules,
+  (
+    search rules,
+    (
+      c.requires.few,
+      ask_and_left (bound_in c.args.scope.now)
+          (drop c.args.first (g.P.Past.tables c.args.present.now.past.now)) c.requires.ask.0 (tree_of c.args.g.now) (tree_of c.args.h.now) c.requires.ask.1,
+    ),
+  ),
+)
+
+pub has_both-operators-requires : goal.has_both-operators-requires
+has_both-operators-requires g t c = (fit_places (tree_of c.args.g.now) (tree_of c.args.h.now) (g.P.Past.tables c.args.present.now.past.now) c.args.first c.requires.few
+    c.ranges.first.fits c.requires.ask.1.tabled).0
+
+pub has_both-overflow_add-next : goal.has_both-overflow_add-next
+has_both-overflow_add-next g t c = subst (λ n. Fits w64 (c.args.first + n)) (sym c.operators.ensures)
+    (fits_from (fit_places (tree_of c.args.g.now) (tree_of c.args.h.now) (g.P.Past.tables c.args.present.now.past.now) c.args.first c.requires.few c.ranges.first.fits
+    c.requires.ask.1.tabled).1)
+
+pub has_both-has_answer_under-requires : goal.has_both-has_answer_under-requires
+has_both-has_answer_under-requires g t c =
+    let at : c.args.first + c.operators.result ≡ c.args.first + length (outermost (tree_of c.args.g.now)) = ap (λ n. c.args.first + n) c.operators.ensures in
+    λ κs lives. (
+      search rules,
+      (
+        search rules,
+        (
+          c.requires.few,
+          (
+            c.in_ok-left.ensures.table,
+            both_ask c.args.present.now.events.now (g.P.Past.tables c.args.present.now.past.now) c.args.first (c.args.first + c.operators.result) (bound_in c.args.scope.now)
+                (tree_of c.args.g.now) (tree_of c.args.h.now) at c.requires.ask.0 c.requires.ask.1
+                c.in_ok-left.left c.in_ok-left.ensures.table c.in_ok-left.ensures.columns c.in_ok-left.ensures.rows,
+          ),
+        ),
+      ),
+    )
+
+pub has_both-returns : goal.has_both-returns
+has_both-returns g t c =
+    let E = c.args.present.now.events.now in
+    let T = g.P.Past.tables c.args.present.now.past.now in
+    let at : c.args.first + c.operators.result ≡ c.args.first + length (outermost (tree_of c.args.g.now)) = ap (λ n. c.args.first + n) c.operators.ensures in
+    ok_for_each c.has_answer_under.result (λ b place. IsTrue b ↔ HasSolution E (drop c.args.first T) (bound_in c.args.scope.now) (And place (tree_of c.args.g.now) (tree_of c.args.h.now)))
+    (λ place. ok_both_answered E T c.args.first (c.args.first + c.operators.result) (bound_in c.args.scope.now) (tree_of c.args.g.now) (tree_of c.args.h.now) at place
+    (and_anywhere (bound_in c.args.scope.now) (drop c.args.first T) c.requires.ask.0 place (tree_of c.args.g.now) (tree_of c.args.h.now) c.requires.ask.1) c.in_ok-left.left
+    c.in_ok-left.ensures.table c.in_ok-left.ensures.columns c.in_ok-left.ensures.rows c.has_answer_under.result c.has_answer_under.ensures)
+
+-- ---- has_either
+
+pub has_either-has_answer-requires : goal.has_either-has_answer-requires
+has_either-has_answer-requires g t c =
+    λ κs lives. (
+      search rules,
+      (
+        search rules,
+        (
+          c.requires.few,
+          ask_or_left (bound_in c.args.scope.now) (drop c.args.first (g.P.Past.tables c.args.present.now.past.now)) c.requires.ask.0 (tree_of c.args.g.now) (tree_of c.args.h.now)
+              c.requires.ask.1,
+        ),
+      ),
+    )
+
+pub has_either-operators-requires : goal.has_either-operators-requires
+has_either-operators-requires g t c = (fit_places (tree_of c.args.g.now) (tree_of c.args.h.now) (g.P.Past.tables c.args.present.now.past.now) c.args.first c.requires.few
+    c.ranges.first.fits c.requires.ask.1.tabled).0
+
+pub has_either-overflow_add-first : goal.has_either-overflow_add-first
+has_either-overflow_add-first g t c = subst (λ n. Fits w64 (c.args.first + n)) (sym c.operators.ensures)
+    (fits_from (fit_places (tree_of c.args.g.now) (tree_of c.args.h.now) (g.P.Past.tables c.args.present.now.past.now) c.args.first c.requires.few c.ranges.first.fits
+    c.requires.ask.1.tabled).1)
+
+pub has_either-has_answer-requires-else-branch : goal.has_either-has_answer-requires-else-branch
+has_either-has_answer-requires-else-branch g t c =
+    let at : c.args.first + c.operators.result ≡ c.args.first + length (outermost (tree_of c.args.g.now)) = ap (λ n. c.args.first + n) c.operators.ensures in
+    λ κs lives. (
+      search rules,
+      (
+        search rules,
+        (
+          c.requires.few,
+          either_ask c.args.present.now.events.now (g.P.Past.tables c.args.present.now.past.now) c.args.first (c.args.first + c.operators.result) (bound_in c.args.scope.now)
+              (tree_of c.args.g.now) (tree_of c.args.h.now) at c.requires.ask.0 c.requires.ask.1,
+        ),
+      ),
+    )
+
+pub has_either-returns-then-branch : goal.has_either-returns-then-branch
+has_either-returns-then-branch g t c = λ place. first_answered c.args.present.now.events.now (g.P.Past.tables c.args.present.now.past.now) c.args.first
+    (c.args.first + length (outermost (tree_of c.args.g.now))) (bound_in c.args.scope.now) (tree_of c.args.g.now) (tree_of c.args.h.now) refl place
+    (or_anywhere (bound_in c.args.scope.now) (drop c.args.first (g.P.Past.tables c.args.present.now.past.now)) c.requires.ask.0 place (tree_of c.args.g.now) (tree_of c.args.h.now)
+    c.requires.ask.1) c.in_ok-has_answer.field-0 c.in_ok-has_answer.ensures c.if-branch.true
+
+pub has_either-returns-else-branch : goal.has_either-returns-else-branch
+has_either-returns-else-branch g t c =
+    let E = c.args.present.now.events.now in
+    let T = g.P.Past.tables c.args.present.now.past.now in
+    let at : c.args.first + c.operators.result ≡ c.args.first + length (outermost (tree_of c.args.g.now)) = ap (λ n. c.args.first + n) c.operators.ensures in
+    ok_for_each c.has_answer-else-branch.result
+    (λ b place. IsTrue b ↔ HasSolution E (drop c.args.first T) (bound_in c.args.scope.now) (Or place (tree_of c.args.g.now) (tree_of c.args.h.now)))
+    (λ place. ok_second_answered E T c.args.first (c.args.first + c.operators.result) (bound_in c.args.scope.now) (tree_of c.args.g.now) (tree_of c.args.h.now) at place
+    (or_anywhere (bound_in c.args.scope.now) (drop c.args.first T) c.requires.ask.0 place (tree_of c.args.g.now) (tree_of c.args.h.now) c.requires.ask.1)
+    c.has_answer-else-branch.result c.in_ok-has_answer.field-0 c.in_ok-has_answer.ensures c.if-branch.false c.has_answer-else-branch.ensures)
+
+-- ---- has_answer_under
+
+pub has_answer_under-has_known_answer-requires : goal.has_answer_under-has_known_answer-requires
+has_answer_under-has_known_answer-requires g t c =
+    let row = c.row-item.result in
+    let all : c.rows-row-items.result.now ≡ c.args.table.now.rows = c.rows-row-items.ensures.rows in
+    let there : Contains c.args.table.now.rows row = subst (λ l. Contains l row) all (c.loop-row.row-index, c.loop-row-test.true, sym c.row-item.is) in
+    let inner : filled_from_row (bound_in c.args.scope.now) c.as_slice.result.now c.as_slice-in-loop-row.result.now
+    ≡ filled_from_row (bound_in c.args.scope.now) c.args.table.now.columns row = (λ i. filled_from_row (bound_in c.args.scope.now)
+    ((c.as_slice.ensures ∙ c.columns.ensures.columns) i) (c.as_slice-in-loop-row.ensures i)) in
+    λ κs lives. (
+      search rules,
+      (
+        search rules,
+        (
+          c.requires.few,
+          (
+            subst (λ v. CanAskFormula v (drop c.args.first (g.P.Past.tables c.args.present.now.past.now))
+                (tree_of c.args.formula.now)) (sym inner) (c.requires.ask row there),
+            subst (λ v. IsTrue c.in_ok-closed.closed ↔ FreeWithin (tree_of c.args.formula.now) (IsBoundBy v)) (sym inner)
+                (c.in_ok-closed.ensures row there),
+          ),
+        ),
+      ),
+    )
+
+pub has_answer_under-loop-row-preserved : goal.has_answer_under-loop-row-preserved
+has_answer_under-loop-row-preserved g t c =
+    let row = c.row-item.result in
+    let all : c.rows-row-items.result.now ≡ c.args.table.now.rows = c.rows-row-items.ensures.rows in
+    let inner : filled_from_row (bound_in c.args.scope.now) c.as_slice.result.now c.as_slice-in-loop-row.result.now
+    ≡ filled_from_row (bound_in c.args.scope.now) c.args.table.now.columns row = (λ i. filled_from_row (bound_in c.args.scope.now)
+    ((c.as_slice.ensures ∙ c.columns.ensures.columns) i) (c.as_slice-in-loop-row.ensures i)) in
+    let at : row ≡ get_or c.args.table.now.rows c.loop-row.row-index row = subst (λ l. row ≡ get_or l c.loop-row.row-index row) all c.row-item.is in
+    each_more (λ r. HasSolution c.args.present.now.events.now (drop c.args.first (g.P.Past.tables c.args.present.now.past.now))
+    (filled_from_row (bound_in c.args.scope.now) c.args.table.now.columns r) (tree_of c.args.formula.now) → ⊥) c.args.table.now.rows c.loop-row.row-index row
+    (subst (λ (l : List (List Value)). c.loop-row.row-index < length l) all c.loop-row-test.true) at c.loop-row.invariant
+    (λ some. false≢true (sym c.if-branch.false ∙ c.in_ok-has_known_answer.ensures.1
+    (subst (λ v. HasSolution c.args.present.now.events.now (drop c.args.first (g.P.Past.tables c.args.present.now.past.now)) v (tree_of c.args.formula.now)) (sym inner) some)))
+
+pub has_answer_under-returns-then-branch : goal.has_answer_under-returns-then-branch
+has_answer_under-returns-then-branch g t c =
+    let row = c.row-item.result in
+    let all : c.rows-row-items.result.now ≡ c.args.table.now.rows = c.rows-row-items.ensures.rows in
+    let there : Contains c.args.table.now.rows row = subst (λ l. Contains l row) all (c.loop-row.row-index, c.loop-row-test.true, sym c.row-item.is) in
+    let inner : filled_from_row (bound_in c.args.scope.now) c.as_slice.result.now c.as_slice-in-loop-row.result.now
+    ≡ filled_from_row (bound_in c.args.scope.now) c.args.table.now.columns row = (λ i. filled_from_row (bound_in c.args.scope.now)
+    ((c.as_slice.ensures ∙ c.columns.ensures.columns) i) (c.as_slice-in-loop-row.ensures i)) in (
+      λ t. (
+        row,
+        there,
+        subst (λ v. HasSolution c.args.present.now.events.now (drop c.args.first (g.P.Past.tables c.args.present.now.past.now)) v (tree_of c.args.formula.now)) inner
+            (c.in_ok-has_known_answer.ensures.0 c.if-branch.true),
+      ),
+      λ some. refl,
+    )
+
+pub has_answer_under-returns : goal.has_answer_under-returns
+has_answer_under-returns g t c =
+    let all : c.rows-row-items.result.now ≡ c.args.table.now.rows = c.rows-row-items.ensures.rows in (
+      λ t. absurd (false≢true t),
+      λ some. absurd (c.loop-row.invariant some.0 (subst (λ l. Contains l some.0) (sym (take_all c.loop-row.row-index c.args.table.now.rows
+          (subst (λ (l : List (List Value)). length l ≤ c.loop-row.row-index) all c.loop-row-test.false))) some.1) some.2),
+    )
 
 -- ---- gather_open
 

@@ -1,5 +1,6 @@
 use Rattle.monitorable_guard.proofs.Vocabulary.{◌+◌, ◌*◌, List, drop, take, Contains, tree_of, formula_size, Value, bound_in, filled_from_row, AddsRows, IsGuardAnswer, HoldsNow}
 use Rattle.monitorable_guard.proofs.RowsLemmas.{SomeOf}
+use Rattle.monitorable_guard.specs.machine.Answers.{HasSolution}
 use Rattle.monitorable_guard.proofs.evaluation.+evaluation.Given as goal
 
 abbrev pub decreases-holds : goal.decreases-holds
@@ -57,3 +58,22 @@ invariant-gather_under-loop-row g l = AddsRows l.columns l.fn.out.items l.out.it
 abbrev pub invariant-holds_under-loop-row : goal.invariant-holds_under-loop-row
 invariant-holds_under-loop-row g l = (row : List Value) → Contains (take l.row-index l.table.rows) row
     → HoldsNow l.present.events.now (drop l.first (g.P.Past.tables l.present.past.now)) (filled_from_row (bound_in l.scope) l.table.columns row) (tree_of l.formula)
+
+abbrev pub decreases-has_open_answer : goal.decreases-has_open_answer
+decreases-has_open_answer g l = 8 * formula_size (tree_of l.formula.now) + 2
+
+abbrev pub decreases-has_known_answer : goal.decreases-has_known_answer
+decreases-has_known_answer g l = 8 * formula_size (tree_of l.formula.now) + 3
+
+abbrev pub decreases-has_both : goal.decreases-has_both
+decreases-has_both g l = 8 * (formula_size (tree_of l.g.now) + formula_size (tree_of l.h.now)) + 7
+
+abbrev pub decreases-has_either : goal.decreases-has_either
+decreases-has_either g l = 8 * (formula_size (tree_of l.g.now) + formula_size (tree_of l.h.now)) + 7
+
+abbrev pub decreases-has_answer_under : goal.decreases-has_answer_under
+decreases-has_answer_under g l = 8 * formula_size (tree_of l.formula.now) + 4
+
+abbrev pub invariant-has_answer_under-loop-row : goal.invariant-has_answer_under-loop-row
+invariant-has_answer_under-loop-row g l = (row : List Value) → Contains (take l.row-index l.table.rows) row
+    → HasSolution l.present.events.now (drop l.first (g.P.Past.tables l.present.past.now)) (filled_from_row (bound_in l.scope) l.table.columns row) (tree_of l.formula) → ⊥
