@@ -1,6 +1,6 @@
 -- What the functions that put a formula in order hand on to each other.
 use Rattle.monitorable_guard.proofs.Vocabulary.{◌≡◌, ◌^◌, ℕ, ◌+◌, ◌<◌, ◌≤◌, ◌⊎◌, inl, inr, ⊎_elim, List, [], ◌∷◌, ◌++◌, length, get_or, take, Contains, ◌↔◌, sym, ap, subst, ◌∙◌, arith}
-use Rattle.monitorable_guard.proofs.Vocabulary.{None, Some, Result, Ok, Err, IfOk, length-append, take_more, take-length, here, VarId, Formula, And, IsFree, Safe, outermost, True}
+use Rattle.monitorable_guard.proofs.Vocabulary.{None, Result, Ok, Err, IfOk, length-append, take_more, take-length, VarId, Formula, And, IsFree, Safe, outermost, True}
 use Rattle.monitorable_guard.proofs.Vocabulary.{False, Atom, Equal, Less, AtMost, Not, Or, Implies, Exists, Forall, Prev, Next, Once, Historically, Since, Eventually, Always, Until, BoundOrFreeIn}
 use Rattle.monitorable_guard.proofs.Vocabulary.{formula_size}
 use Rattle.monitorable_guard.proofs.ReorderingParts.{conjuncts_are}

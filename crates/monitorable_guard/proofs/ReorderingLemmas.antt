@@ -1,5 +1,5 @@
 -- Formulas whose conjuncts stand in another order: alone, joined, and below other operators.
-use Rattle.monitorable_guard.proofs.Vocabulary.{◌≡◌, ℕ, zero, suc, ◌+◌, ◌<◌, ◌⊎◌, inl, inr, ⊎_elim, List, [], ◌∷◌, ◌++◌, length, get_or, map, drop, Contains, ◌↔◌, refl, sym, ap, subst, ◌∙◌}
+use Rattle.monitorable_guard.proofs.Vocabulary.{◌≡◌, ℕ, zero, suc, ◌+◌, ◌<◌, ◌⊎◌, inl, inr, ⊎_elim, List, [], ◌∷◌, ◌++◌, length, get_or, drop, Contains, ◌↔◌, refl, sym, ap, subst, ◌∙◌}
 use Rattle.monitorable_guard.proofs.Vocabulary.{arith, length-append, length-map, drop-drop, get_or-drop, Contains-append, Contains-append_left, Contains-append_right, here, none_in_nil}
 use Rattle.monitorable_guard.proofs.Vocabulary.{only_item, Valuation, with_values, Event, VarId, Formula, True, False, Atom, Equal, Less, AtMost, Not, And, Or, Implies, Exists, Forall, Prev}
 use Rattle.monitorable_guard.proofs.Vocabulary.{Next, Once, Historically, Since, Eventually, Always, Until, IsFree, BindsFresh, Relation, HasValuation, FitOperators, HoldsNow, FirstHas, outermost}

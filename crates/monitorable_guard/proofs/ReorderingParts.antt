@@ -1,5 +1,5 @@
 -- Formulas whose parts stand in another order, and the conjuncts of a formula.
-use Rattle.monitorable_guard.proofs.Vocabulary.{◌≡◌, ℕ, ◌+◌, ◌<◌, ◌≤◌, ◌⊎◌, inl, inr, ⊎_elim, List, ◌++◌, length, drop, Contains, ◌↔◌, sym, ap, subst, arith, length-append, drop-drop}
+use Rattle.monitorable_guard.proofs.Vocabulary.{◌≡◌, ℕ, ◌+◌, ◌<◌, ◌≤◌, ◌⊎◌, inl, inr, ⊎_elim, List, ◌++◌, length, drop, Contains, ◌↔◌, sym, subst, arith, length-append, drop-drop}
 use Rattle.monitorable_guard.proofs.Vocabulary.{Contains-append, Contains-append_left, Contains-append_right, Valuation, with_values, Event, VarId, Formula, And, Not, Or, Implies, Exists}
 use Rattle.monitorable_guard.proofs.Vocabulary.{Forall, IsFree, BindsFresh, Relation, FitOperators, HoldsNow, outermost, tables_beyond}
 use Rattle.monitorable_guard.proofs.AgreementLemmas.{fit_front, fit_back}

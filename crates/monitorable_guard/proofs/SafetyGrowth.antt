@@ -1,7 +1,7 @@
 -- What can be evaluated can be where more variables are bound.
 use Rattle.monitorable_guard.proofs.Vocabulary.{◌≡◌, ◌⊎◌, inl, inr, ⊎_elim, List, [], ◌∷◌, ◌++◌, Option, None, Some, Contains, ap, subst, first_or_later, here, later, none_in_nil, same_or_other}
 use Rattle.monitorable_guard.proofs.Vocabulary.{among_or_not, Term, Var, Const, VarId, Formula, True, False, Atom, Equal, Less, AtMost, Not, And, Or, Implies, Exists, Forall, Prev, Next, Once}
-use Rattle.monitorable_guard.proofs.Vocabulary.{Historically, Since, Eventually, Always, Until, IsFree, Safe, SafeBelow, FreeWithin, BoundOrFreeIn, Assigns}
+use Rattle.monitorable_guard.proofs.Vocabulary.{Historically, Since, Eventually, Always, Until, IsFree, SafeBelow, FreeWithin, BoundOrFreeIn, Assigns}
 use Rattle.monitorable_guard.proofs.Decided.{Decided, decided_as, decided_both, decided_either, decided_not}
 use Rattle.monitorable_guard.proofs.SafetyLemmas.{historically_denial}
 use Rattle.enf_data.proofs.ValuationFacts.{variable_is}

@@ -1,13 +1,13 @@
 -- Formulas that can be evaluated one after another, each where the variables of those before it are bound too.
-use Rattle.monitorable_guard.proofs.Vocabulary.{◌≡◌, ℕ, zero, suc, ◌+◌, ◌<◌, ◌≤◌, ◌⊎◌, inl, inr, ⊎_elim, List, [], ◌∷◌, ◌++◌, length, get_or, map, take, Contains, ◌↔◌, refl, sym, ap, subst, ◌∙◌}
-use Rattle.monitorable_guard.proofs.Vocabulary.{arith, None, Some, here, later, first_or_later, none_in_nil, among_or_not, VarId, Formula, And, IsFree, Safe, BoundOrFreeIn}
+use Rattle.monitorable_guard.proofs.Vocabulary.{◌≡◌, ℕ, zero, suc, ◌+◌, ◌<◌, ◌≤◌, ◌⊎◌, inl, inr, ⊎_elim, List, [], ◌∷◌, ◌++◌, length, get_or, map, Contains, ◌↔◌, refl, sym, ap, subst, ◌∙◌}
+use Rattle.monitorable_guard.proofs.Vocabulary.{arith, None, here, later, first_or_later, none_in_nil, among_or_not, VarId, Formula, And, IsFree, Safe, BoundOrFreeIn}
 use Rattle.monitorable_guard.proofs.Vocabulary.{outermost, formula_size, only_item, Contains-append, Contains-append_left, Contains-append_right}
 use Rattle.monitorable_guard.proofs.ReorderingParts.{conjuncts_are}
 use Rattle.monitorable_guard.proofs.SafetyGrowth.{AreKnown, AreWithin, known_with, more_with, safe_grows}
 use Rattle.monitorable_guard.specs.machine.AskingOrder.{total_size}
 use Rattle.monitorable_guard.specs.machine.Reordering.{AreSafeInTurn, PlacedFormula, SomePlaced, conjuncts_from}
 use Rattle.std.proofs.lemmas.List.Sums.{sum_by-append, sum_by-remove, sum_by_push}
-use Rattle.std.specs.List.{remove, sum_by}
+use Rattle.std.specs.List.{remove}
 
 pub listed_known : (xs : List VarId) → AreKnown (Contains xs)
 listed_known xs x = among_or_not xs x

@@ -1,4 +1,4 @@
-use Rattle.monitorable_guard.proofs.Vocabulary.{◌≡◌, ◌+◌, ◌≤◌, length, map, drop, value_of_term}
+use Rattle.monitorable_guard.proofs.Vocabulary.{◌≡◌, ◌+◌, map, drop, value_of_term}
 use Rattle.monitorable_guard.specs.machine.EventOrder.{leading_known}
 use Rattle.monitorable_guard.proofs.events.leading.Given as goal
 

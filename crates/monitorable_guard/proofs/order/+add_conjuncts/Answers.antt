@@ -1,4 +1,4 @@
-use Rattle.monitorable_guard.proofs.Vocabulary.{◌+◌, ◌<◌, ◌^◌, ap, sym, ◌∙◌, ◌++◌, ◌∷◌, [], map, subst, tree_of, outermost, arith, length, Fits, w64, formula_size}
+use Rattle.monitorable_guard.proofs.Vocabulary.{◌+◌, ◌<◌, ◌^◌, ap, sym, ◌∙◌, ◌++◌, ◌∷◌, [], subst, tree_of, outermost, arith, length, Fits, w64, formula_size}
 use Rattle.monitorable_guard.proofs.CycleLemmas.{fits_from}
 use Rattle.monitorable_guard.proofs.KindLemmas.{lone_conjunct}
 use Rattle.monitorable_guard.proofs.OrderedLemmas.{room_left, room_right}

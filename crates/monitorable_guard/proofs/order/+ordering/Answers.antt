@@ -1,5 +1,6 @@
-use Rattle.monitorable_guard.proofs.Vocabulary.{◌≡◌, ◌+◌, ◌<◌, ◌↔◌, List, Option, None, Contains, length, map, sym, ap, subst, ◌∙◌, arith, rules, length-map, IfOk-weaker, VarId, tree_of}
-use Rattle.monitorable_guard.proofs.Vocabulary.{outermost, ◌^◌, ◌-◌, length-take-le, Formula, BoundOrFreeIn, formula_size, Not, And, Or, Implies, Exists, Forall, Safe, SafeBelow, ℕ, [], ◌∷◌, ◌++◌, get_or, take, here, Contains-append_left, Contains-append_right}
+use Rattle.monitorable_guard.proofs.Vocabulary.{◌≡◌, ◌+◌, ◌<◌, ◌↔◌, List, Option, None, Contains, length, sym, ap, subst, ◌∙◌, arith, rules, length-map, IfOk-weaker, VarId, tree_of}
+use Rattle.monitorable_guard.proofs.Vocabulary.{outermost, ◌^◌, ◌-◌, length-take-le, Formula, BoundOrFreeIn, formula_size, Not, And, Or, Implies, Exists, Forall, Safe, SafeBelow, ℕ, [], ◌∷◌}
+use Rattle.monitorable_guard.proofs.Vocabulary.{◌++◌, get_or, take, here, Contains-append_left, Contains-append_right}
 use Rattle.monitorable_guard.proofs.OrderedLemmas.{room_left, room_right, conjuncts_room, conjuncts_large, some_by_size, last_parts, last_safe, conjunction_safe, ok_same, ok_so}
 use Rattle.monitorable_guard.proofs.OrderedLemmas.{size_some, last_size}
 use Rattle.monitorable_guard.proofs.OrderedSafety.{not_part, exists_part, forall_part, and_whole, and_below, or_parts, implies_parts, not_again, exists_again, forall_again, or_again, implies_again}
@@ -114,7 +115,8 @@ ordered-returns-in_ok-part-in-Not-clause-safe t c =
     let B = Contains c.args.bound.now in
     rw (c.in-Not.is, ← c.deref-in-Not.ensures)
     (ok_so (λ a. tree_of a.formula) (λ k. (above : Option (List VarId)) → SafeBelow above (Not c.in-Not.place g) B → SafeBelow above k B) (Not c.in-Not.place (tree_of part.formula))
-    (λ above safe. not_again c.args.first g (tree_of part.formula) part.numbers.items c.in_ok-part-in-Not.ensures.same B above c.in-Not.place (c.in_ok-part-in-Not.ensures.safe None (not_part above c.in-Not.place g B safe)) safe)
+    (λ above safe. not_again c.args.first g (tree_of part.formula) part.numbers.items c.in_ok-part-in-Not.ensures.same B above c.in-Not.place (c.in_ok-part-in-Not.ensures.safe None
+    (not_part above c.in-Not.place g B safe)) safe)
     c.not.result c.not.ensures.formula)
 
 pub ordered-ordered-requires-in-Exists : goal.ordered-ordered-requires-in-Exists
@@ -138,8 +140,10 @@ ordered-returns-in_ok-part-in-Exists-clause-safe t c =
     let g = tree_of c.deref-in-Exists.result.now in
     let B = Contains c.args.bound.now in
     rw (c.in-Exists.is, ← c.deref-in-Exists.ensures)
-    (ok_so (λ a. tree_of a.formula) (λ k. (above : Option (List VarId)) → SafeBelow above (Exists c.in-Exists.place c.in-Exists.xs g) B → SafeBelow above k B) (Exists c.in-Exists.place c.in-Exists.xs (tree_of part.formula))
-    (λ above safe. exists_again c.args.first g (tree_of part.formula) part.numbers.items c.in_ok-part-in-Exists.ensures.same B above c.in-Exists.place c.in-Exists.xs (c.in_ok-part-in-Exists.ensures.safe None (exists_part above c.in-Exists.place c.in-Exists.xs g B safe)) safe)
+    (ok_so (λ a. tree_of a.formula) (λ k. (above : Option (List VarId)) → SafeBelow above (Exists c.in-Exists.place c.in-Exists.xs g) B → SafeBelow above k B) (Exists c.in-Exists.place
+    c.in-Exists.xs (tree_of part.formula))
+    (λ above safe. exists_again c.args.first g (tree_of part.formula) part.numbers.items c.in_ok-part-in-Exists.ensures.same B above c.in-Exists.place c.in-Exists.xs
+    (c.in_ok-part-in-Exists.ensures.safe None (exists_part above c.in-Exists.place c.in-Exists.xs g B safe)) safe)
     c.exists.result c.exists.ensures.formula)
 
 pub ordered-ordered-requires-in-Forall : goal.ordered-ordered-requires-in-Forall
@@ -163,8 +167,10 @@ ordered-returns-in_ok-part-in-Forall-clause-safe t c =
     let g = tree_of c.deref-in-Forall.result.now in
     let B = Contains c.args.bound.now in
     rw (c.in-Forall.is, ← c.deref-in-Forall.ensures)
-    (ok_so (λ a. tree_of a.formula) (λ k. (above : Option (List VarId)) → SafeBelow above (Forall c.in-Forall.place c.in-Forall.xs g) B → SafeBelow above k B) (Forall c.in-Forall.place c.in-Forall.xs (tree_of part.formula))
-    (λ above safe. forall_again c.args.first g (tree_of part.formula) part.numbers.items c.in_ok-part-in-Forall.ensures.same B c.in_ok-part-in-Forall.ensures.safe above c.in-Forall.place c.in-Forall.xs safe)
+    (ok_so (λ a. tree_of a.formula) (λ k. (above : Option (List VarId)) → SafeBelow above (Forall c.in-Forall.place c.in-Forall.xs g) B → SafeBelow above k B) (Forall c.in-Forall.place
+    c.in-Forall.xs (tree_of part.formula))
+    (λ above safe. forall_again c.args.first g (tree_of part.formula) part.numbers.items c.in_ok-part-in-Forall.ensures.same B c.in_ok-part-in-Forall.ensures.safe above c.in-Forall.place
+    c.in-Forall.xs safe)
     c.forall.result c.forall.ensures.formula)
 
 -- ---- as it is given

@@ -1,9 +1,9 @@
-use Rattle.monitorable_guard.proofs.Vocabulary.{◌≡◌, ◌+◌, ◌<◌, ◌↔◌, List, [], ◌∷◌, ◌++◌, length, get_or, Contains, ap, sym, refl, ◌∙◌, subst, arith, length-map, VarId, Safe, tree_of, BoundOrFreeIn, eqb-true}
+use Rattle.monitorable_guard.proofs.Vocabulary.{◌≡◌, ◌<◌, ◌↔◌, List, [], ◌∷◌, ◌++◌, length, get_or, Contains, ap, sym, refl, ◌∙◌, subst, arith, length-map, VarId, Safe, tree_of, BoundOrFreeIn}
+use Rattle.monitorable_guard.proofs.Vocabulary.{eqb-true}
 use Rattle.monitorable_guard.proofs.TurnLemmas.{TurnSoFar, turn_goes_on, turn_same, turn_size, map-remove}
 use Rattle.monitorable_guard.specs.declared.order.Conjunct.{Conjunct}
 use Rattle.monitorable_guard.specs.machine.AskingOrder.{placed_conjunct, placed_conjuncts}
 use Rattle.std.proofs.lemmas.List.{get_or-map, map-append}
-use Rattle.std.specs.List.{remove}
 use Rattle.monitorable_guard.proofs.order.in_turn.Goals as goal
 
 pub loop-alloc-preserved : goal.loop-alloc-preserved
@@ -21,7 +21,8 @@ loop-alloc-preserved c =
     let at : get_or left i conjunct ≡ conjunct = sym c.remove-conjunct.ensures.value in
     let placed_at : get_or (placed_conjuncts left) i p ≡ p = get_or-map placed_conjunct left i conjunct p within ∙ ap placed_conjunct at in
     let long : i < length (placed_conjuncts left) = omega (arith, within, length-map left placed_conjunct) in
-    let told = subst (λ (s : List VarId). Safe (tree_of (get_or c.as_slice.result.now i conjunct).formula.now) (Contains s)) c.as_slice-in-loop-alloc.ensures.value (c.in_ok-next.ensures.ready conjunct) in
+    let told = subst (λ (s : List VarId). Safe (tree_of (get_or c.as_slice.result.now i conjunct).formula.now) (Contains s)) c.as_slice-in-loop-alloc.ensures.value
+    (c.in_ok-next.ensures.ready conjunct) in
     let first = subst (λ (l : List Conjunct). Safe (tree_of (get_or l i conjunct).formula.now) (Contains scope)) c.as_slice.ensures.value told in
     let ready : Safe p.formula (Contains scope) = subst (λ (k : Conjunct). Safe (tree_of k.formula.now) (Contains scope)) at first in
     let more : (x : VarId) → Contains next x ↔ BoundOrFreeIn (Contains scope) p.formula x =
