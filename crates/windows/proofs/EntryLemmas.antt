@@ -1,14 +1,18 @@
 -- Rows with their times.
 use Rattle.windows.proofs.Vocabulary.{◌≡◌, ◌∙◌, ◌↔◌, ◌⊎◌, inl, inr, ⊎_elim, ℕ, zero, suc, ◌+◌, ◌-◌, ◌<◌, ◌≤◌, Bool, true, false, List, [], ◌∷◌, ◌++◌, length, map, take, drop, get_or, All, Contains}
 use Rattle.windows.proofs.Vocabulary.{Option, None, Some, refl, sym, ap, subst, arith, false≢true, All-contains, All-nil, All-push, Contains-append_cases, Contains-append_left, Contains-append_right}
-use Rattle.windows.proofs.Vocabulary.{Contains-get_or, Contains-push, same_Some, none-some, position, slice_get, swap_remove, IfSome, cond, IsDistinct, IsPermutation, RetainsPairs, take_more}
-use Rattle.windows.proofs.Vocabulary.{IsPermutation-swap_remove, IsPermutation-sym, Contains-permutation, position-Some, keys_of, lookup, values_of, set_value_at, get_by, insert_entry}
+use Rattle.windows.proofs.Vocabulary.{Contains-get_or, Contains-push, same_Some, none-some, position, slice_get, IfSome, cond, IsDistinct, RetainsPairs, take_more}
+use Rattle.windows.proofs.Vocabulary.{position-Some, keys_of, lookup, values_of, set_value_at, get_by, insert_entry}
 use Rattle.windows.proofs.Vocabulary.{insert_entry-new, HashMap, HasNoRepeats-from_distinct, here, later, first_or_later, none_in_nil, derived_row_eq-Decides, HasNoRepeats, Interval, Value, all_from}
 use Rattle.windows.proofs.Vocabulary.{AddAtMost, AddsAtMost, AddsTime, AddsTimes, AreWindowEntries, AreLeast, Forgets, ForgetsTimes, GivesRow, GivesSomeRow, HasTime, IsAnyRow, IsSettledRow, IsSomeIn}
-use Rattle.windows.proofs.Vocabulary.{KeepsRows, IsEndedTime, AreLeastTimes, IsServedTime, RiseTo}
+use Rattle.windows.proofs.Vocabulary.{KeepsRows, IsEndedTime, AreLeastTimes, IsServedTime, RiseTo, Contains-from_map, Contains-map}
+use Rattle.windows.proofs.Vocabulary.{All-weaker}
 use Rattle.std.specs.Prelude.{is_some, IsTrue}
 use Rattle.windows.proofs.LeastLemmas.{one_entry}
-use Rattle.windows.proofs.TimeLemmas.{itself, least_live, least_near, rise_later}
+use Rattle.windows.proofs.TimeLemmas.{first_least, itself, least_live, least_near, rise_later}
+use Rattle.windows.specs.machine.RowTimes.{is_some_time}
+use Rattle.windows.specs.machine.Windows.{kept_entries}
+use Rattle.windows.specs.machine.WindowEntries.{IsLetGoUnless}
 use Rattle.enf_data.specs.contracts.rows.RowPartialEq.TheImpl as rows
 
 -- ---- an entry whose times are changed
@@ -18,6 +22,7 @@ pub record SetsAt (es after : List (List Value × List ℕ)) (row : List Value) 
   pub is : Contains after (row, new)
   pub from : (e : List Value × List ℕ) → Contains after e → Contains es e ⊎ (e ≡ (row, new))
   pub rest : (e : List Value × List ℕ) → Contains es e → Contains after e ⊎ (e ≡ (row, old))
+  pub rows : map (λ e. e.0) after ≡ map (λ e. e.0) es
 
 -- at the place of the row
 sets_there : (test : List Value → Bool) (row d : List Value) → ((k : List Value) → test k ≡ true → row ≡ k)
@@ -34,6 +39,7 @@ sets_there test row d same (e ∷ es) zero old new within passes value =
       is = (0, omega arith, changed);
       from = λ other there. ⊎_elim (λ h. inr (sym h ∙ changed)) (λ behind. inl (later other e es behind)) (first_or_later other (e.0, new) es there);
       rest = λ other there. ⊎_elim (λ h. inr (sym h ∙ first)) (λ behind. inl (later other (e.0, new) es behind)) (first_or_later other e es there);
+      rows = refl;
     }
 sets_there test row d same (e ∷ es) (suc place) old new within passes value =
     let inner = sets_there test row d same es place old new (omega (arith, within)) passes value in record {
@@ -43,6 +49,7 @@ sets_there test row d same (e ∷ es) (suc place) old new within passes value =
           (first_or_later other e (set_value_at es place new) there);
       rest = λ other there. ⊎_elim (λ h. inl (0, omega arith, h)) (λ behind. ⊎_elim (λ b. inl (later other e (set_value_at es place new) b)) (λ same_one. inr same_one)
           (inner.rest other behind)) (first_or_later other e es there);
+      rows = ap (λ l. e.0 ∷ l) inner.rows;
     }
 
 pub sets_at : (row : List Value) (es : List (List Value × List ℕ)) (place : ℕ) (old new : List ℕ) → Some place ≡ position (rows.eq-value.it row) (keys_of es)
@@ -78,15 +85,24 @@ not_ended_now (Some high) now ended = omega (arith, ended)
 -- ---- rows that are so long, with times that rise
 
 abbrev Fit : ℕ → ℕ → List Value × List ℕ → Type 0
-Fit long last e = (length e.0 ≡ long) × RiseTo last e.1 × (0 < length e.1)
+Fit long last e = (length e.0 ≡ long) × RiseTo last e.1
 
 pub fit_of : (long last : ℕ) (es : List (List Value × List ℕ)) (row : List Value) (times : List ℕ) → AreWindowEntries long last es → Contains es (row, times)
-    → (length row ≡ long) × RiseTo last times × (0 < length times)
+    → (length row ≡ long) × RiseTo last times
 fit_of long last es row times kept there = All-contains (Fit long last) es (row, times) kept.fit there
 
+pub entries_fit : (long last : ℕ) (es : List (List Value × List ℕ)) → AreWindowEntries long last es → All (λ e. length e.0 ≡ long) es
+entries_fit long last es kept = All-weaker (Fit long last) (λ e. length e.0 ≡ long) (λ e fit. fit.0) es kept.fit
+
 pub least_of : (interval : Interval) (last : ℕ) (es : List (List Value × List ℕ)) (row : List Value) (times : List ℕ) → AreLeast interval last es
-    → Contains es (row, times) → AreLeastTimes interval.high interval.low last times
-least_of interval last es row times least there = All-contains (λ e. AreLeastTimes interval.high interval.low last e.1) es (row, times) least there
+    → Contains es (row, times) → (times ≡ []) ⊎ AreLeastTimes interval.high interval.low last times
+least_of interval last es row times least there = All-contains (λ e. (e.1 ≡ []) ⊎ AreLeastTimes interval.high interval.low last e.1) es (row, times) least there
+
+-- where the row has a time
+pub least_with : (interval : Interval) (last : ℕ) (es : List (List Value × List ℕ)) (row : List Value) (times : List ℕ) (time : ℕ) → AreLeast interval last es
+    → Contains es (row, times) → Contains times time → AreLeastTimes interval.high interval.low last times
+least_with interval last es row times time least there has = ⊎_elim (λ none. absurd (none_in_nil time (subst (λ l. Contains l time) none has))) (λ is. is)
+    (least_of interval last es row times least there)
 
 pub set_keys : (es : List (List Value × List ℕ)) (place : ℕ) (new : List ℕ) → map (λ e. e.0) (set_value_at es place new) ≡ map (λ e. e.0) es
 set_keys [] place new = refl
@@ -95,51 +111,52 @@ set_keys (e ∷ es) (suc place) new = ap (λ l. e.0 ∷ l) (set_keys es place ne
 
 pub kept_set : (long last : ℕ) (row : List Value) (es : List (List Value × List ℕ)) (place : ℕ) (old new : List ℕ) → AreWindowEntries long last es
     → SetsAt es (set_value_at es place new) row old new → RiseTo last new
-    → 0 < length new → AreWindowEntries long last (set_value_at es place new)
-kept_set long last row es place old new kept sets rise some = record {
+    → AreWindowEntries long last (set_value_at es place new)
+kept_set long last row es place old new kept sets rise = record {
   fit = all_from (Fit long last) (set_value_at es place new) (λ e there. ⊎_elim (λ before. All-contains (Fit long last) es e kept.fit before)
-      (λ same. subst (Fit long last) (sym same) ((All-contains (Fit long last) es (row, old) kept.fit sets.was).0, rise, some)) (sets.from e there));
+      (λ same. subst (Fit long last) (sym same) ((All-contains (Fit long last) es (row, old) kept.fit sets.was).0, rise)) (sets.from e there));
   unique = subst HasNoRepeats (sym (set_keys es place new)) kept.unique;
 }
 
 pub least_set : (interval : Interval) (last : ℕ) (row : List Value) (es after : List (List Value × List ℕ)) (old new : List ℕ) → AreLeast interval last es → SetsAt es after row old new
-    → AreLeastTimes interval.high interval.low last new → AreLeast interval last after
-least_set interval last row es after old new least sets is = all_from (λ e. AreLeastTimes interval.high interval.low last e.1) after (λ e there.
-    ⊎_elim (λ before. All-contains (λ x. AreLeastTimes interval.high interval.low last x.1) es e least before)
-    (λ same. subst (λ x. AreLeastTimes interval.high interval.low last x.1) (sym same) is) (sets.from e there))
+    → (new ≡ []) ⊎ AreLeastTimes interval.high interval.low last new → AreLeast interval last after
+least_set interval last row es after old new least sets is = all_from (λ e. (e.1 ≡ []) ⊎ AreLeastTimes interval.high interval.low last e.1) after (λ e there.
+    ⊎_elim (λ before. All-contains (λ x. (x.1 ≡ []) ⊎ AreLeastTimes interval.high interval.low last x.1) es e least before)
+    (λ same. subst (λ x. (x.1 ≡ []) ⊎ AreLeastTimes interval.high interval.low last x.1) (sym same) is) (sets.from e there))
 
 pub kept_first : (long last : ℕ) (row : List Value) (es after : List (List Value × List ℕ)) (new : List ℕ) → AreWindowEntries long last es → length row ≡ long → after
     ≡ es ++ (row, new) ∷ [] → new ≡ last ∷ []
     → HasNoRepeats (map (λ e. e.0) after) → AreWindowEntries long last after
 kept_first long last row es after new kept fits grown one unique = record {
   fit = subst (All (Fit long last)) (sym grown) (All-push (Fit long last) es (row, new) kept.fit
-      (fits, subst (RiseTo last) (sym one) (omega arith, All-nil _, tt), subst (λ l. 0 < length l) (sym one) (omega arith)));
+      (fits, subst (RiseTo last) (sym one) (omega arith, All-nil _, tt)));
   unique = unique;
 }
 
 pub least_first : (interval : Interval) (last : ℕ) (row : List Value) (es after : List (List Value × List ℕ)) (new : List ℕ) → AreLeast interval last es → after
     ≡ es ++ (row, new) ∷ [] → new ≡ last ∷ [] → AreLeast interval last after
 least_first interval last row es after new least grown one =
-    subst (AreLeast interval last) (sym grown) (All-push (λ e. AreLeastTimes interval.high interval.low last e.1) es (row, new) least
-    (subst (AreLeastTimes interval.high interval.low last) (sym one) (alone interval.high)))
-  where
-    alone : (high : Option ℕ) → AreLeastTimes high interval.low last (last ∷ [])
-    alone None = refl
-    alone (Some high) = (omega arith, All-nil _)
+    subst (AreLeast interval last) (sym grown) (All-push (λ e. (e.1 ≡ []) ⊎ AreLeastTimes interval.high interval.low last e.1) es (row, new) least
+    (inr (subst (AreLeastTimes interval.high interval.low last) (sym one) (first_least interval.high interval.low last))))
 
--- rows that stay fit as before
+-- rows that stay fit as before, and those that lose their times do
 pub kept_fewer : (long last : ℕ) (es after : List (List Value × List ℕ)) → AreWindowEntries long last es
-    → ((e : List Value × List ℕ) → Contains after e → Contains es e) → HasNoRepeats (map (λ e. e.0) after) → AreWindowEntries long last after
-kept_fewer long last es after kept among unique = record { fit = all_from (Fit long last) after (λ e there. All-contains (Fit long last) es e kept.fit (among e there)); unique = unique }
+    → ((e : List Value × List ℕ) → Contains after e → Contains es e ⊎ ((e.1 ≡ []) × Contains (map (λ x. x.0) es) e.0)) → HasNoRepeats (map (λ e. e.0) after) → AreWindowEntries long last after
+kept_fewer long last es after kept among unique = record {
+  fit = all_from (Fit long last) after (λ e there. ⊎_elim (λ before. All-contains (Fit long last) es e kept.fit before) (λ gone.
+      let from = Contains-from_map (λ (x : List Value × List ℕ). x.0) es e.0 gone.1 in
+      (ap length (sym from.2) ∙ (All-contains (Fit long last) es from.0 kept.fit from.1).0, subst (RiseTo last) (sym gone.0) tt)) (among e there));
+  unique = unique;
+}
 
 pub least_fewer : (interval : Interval) (last : ℕ) (es after : List (List Value × List ℕ)) → AreLeast interval last es
-    → ((e : List Value × List ℕ) → Contains after e → Contains es e) → AreLeast interval last after
-least_fewer interval last es after least among = all_from (λ e. AreLeastTimes interval.high interval.low last e.1) after
-    (λ e there. All-contains (λ x. AreLeastTimes interval.high interval.low last x.1) es e least (among e there))
+    → ((e : List Value × List ℕ) → Contains after e → Contains es e ⊎ ((e.1 ≡ []) × Contains (map (λ x. x.0) es) e.0)) → AreLeast interval last after
+least_fewer interval last es after least among = all_from (λ e. (e.1 ≡ []) ⊎ AreLeastTimes interval.high interval.low last e.1) after
+    (λ e there. ⊎_elim (λ before. All-contains (λ x. (x.1 ≡ []) ⊎ AreLeastTimes interval.high interval.low last x.1) es e least before) (λ gone. inl gone.0) (among e there))
 
 pub kept_later : (long last now : ℕ) (es : List (List Value × List ℕ)) → last ≤ now → AreWindowEntries long last es → AreWindowEntries long now es
 kept_later long last now es below kept = record {
-  fit = all_from (Fit long now) es (λ e there. let fit = All-contains (Fit long last) es e kept.fit there in (fit.0, rise_later last now e.1 below fit.1, fit.2));
+  fit = all_from (Fit long now) es (λ e there. let fit = All-contains (Fit long last) es e kept.fit there in (fit.0, rise_later last now e.1 below fit.1));
   unique = kept.unique;
 }
 
@@ -187,16 +204,41 @@ module _ (interval : Interval) (now : ℕ) (row : List Value) (es after : List (
   -- or some are left out
   pub row_forgets : (high : ℕ) → interval.high ≡ Some high → ForgetsTimes high interval.low now old new → Forgets interval now es after
   row_forgets high is forgets = record {
+    rows = sets.rows;
     from = λ other time has. ⊎_elim (λ before. before) (λ none. absurd none.0) (from_set Contains ⊥ other time has (λ there. inl (forgets.from time there)));
     behind = λ other time has. ⊎_elim (λ before. before) (λ none. absurd none.0) (from_set (λ l t. Contains (drop 1 l) t) ⊥ other time has (λ there. inl (forgets.behind time there)));
     serves = λ other time has. serves_set other time has (λ t there. subst (λ h. IsServedTime h interval.low now (Contains new) t ⊎ IsEndedTime h now t) (sym is) (forgets.serves t there));
   }
 
-  pub row_settled : (high : ℕ) → HasNoRepeats (map (λ e. e.0) after) → RiseTo now new → AreLeastTimes (Some high) interval.low now new → IsSettledRow high interval.low now after row
+  pub row_settled : (high : ℕ) → HasNoRepeats (map (λ e. e.0) after) → RiseTo now new → (new ≡ []) ⊎ AreLeastTimes (Some high) interval.low now new → IsSettledRow high interval.low now after row
   row_settled high unique rise least = λ time. (
-    λ has. least_live high interval.low now new rise least time (subst (λ t. Contains t time) (one_entry after unique row has.0 new has.1 sets.is) has.2),
-    λ has. least_near high interval.low now new least time (subst (λ t. Contains (drop 1 t) time) (one_entry after unique row has.0 new has.1 sets.is) has.2),
+    λ has.
+        let at : Contains new time = subst (λ t. Contains t time) (one_entry after unique row has.0 new has.1 sets.is) has.2 in
+        ⊎_elim (λ none. absurd (none_in_nil time (subst (λ l. Contains l time) none at))) (λ is. least_live high interval.low now new rise is time at) least,
+    λ has.
+        let at : Contains (drop 1 new) time = subst (λ t. Contains (drop 1 t) time) (one_entry after unique row has.0 new has.1 sets.is) has.2 in
+        ⊎_elim (λ none. absurd (none_in_nil time (subst (λ (l : List ℕ). Contains (drop 1 l) time) none at))) (λ is. least_near high interval.low now new is time at) least,
   )
+
+-- the times of a row go
+pub row_let_go : (row : List Value) (es after : List (List Value × List ℕ)) (old : List ℕ) → SetsAt es after row old [] → map (λ e. e.0) after ≡ map (λ e. e.0) es
+    → HasNoRepeats (map (λ e. e.0) after) → KeepsRows (λ other. other ≡ row → ⊥) es after
+row_let_go row es after old sets same_keys unique = record {
+  among = λ e there. ⊎_elim (λ before. inl before) (λ same. inr (
+    ap (λ x. x.1) same,
+    subst (Contains (map (λ x. x.0) es)) (sym (ap (λ x. x.0) same)) (Contains-map (λ (x : List Value × List ℕ). x.0) es (row, old) sets.was),
+  )) (sets.from e there);
+  exact = λ other time. (
+    λ has. ⊎_elim
+        (λ before. (
+          (has.0, before, has.2),
+          λ same. none_in_nil time (subst (λ l. Contains l time) (one_entry after unique row has.0 [] (subst (λ r. Contains after (r, has.0)) same has.1) sets.is) has.2),
+        ))
+        (λ same. absurd (none_in_nil time (subst (λ l. Contains l time) (ap (λ x. x.1) same) has.2))) (sets.from (other, has.0) has.1),
+    λ both. ⊎_elim (λ stays. (both.0.0, stays, both.0.2)) (λ same. absurd (both.1 (ap (λ x. x.0) same))) (sets.rest (other, both.0.0) both.0.1),
+  );
+  unique = λ before. unique;
+}
 
 module _ (interval : Interval) (now : ℕ) (row : List Value) (es after : List (List Value × List ℕ)) (new : List ℕ) (grown : after ≡ es ++ (row, new) ∷ []) (one : new ≡ now ∷ []) where
   first_from : (other : List Value) (times : List ℕ) → Contains after (other, times) → Contains es (other, times) ⊎ ((times ≡ now ∷ []) × (other ≡ row))
@@ -255,6 +297,7 @@ adds_then interval now done row es middle after first second = record {
 pub forgets_then : (interval : Interval) (now : ℕ) (es middle after : List (List Value × List ℕ)) → Forgets interval now es middle → Forgets interval now middle after
     → Forgets interval now es after
 forgets_then interval now es middle after first second = record {
+  rows = second.rows ∙ first.rows;
   from = λ row time has. first.from row time (second.from row time has);
   behind = λ row time has. first.behind row time (second.behind row time has);
   serves = λ row time has. ⊎_elim (served_on interval.high interval.low now (HasTime middle row) (HasTime after row) time (second.serves row)) (λ ended. inr ended) (first.serves row time has);
@@ -266,12 +309,20 @@ pub settled_then : (high : ℕ) (interval : Interval) (now : ℕ) (row : List Va
 settled_then high interval now row middle after second settled = λ time. (λ has. (settled time).0 (second.from row time has), λ has. (settled time).1 (second.behind row time has))
 
 pub keeps_all : (es : List (List Value × List ℕ)) → KeepsRows (λ row. Contains [] row → ⊥) es es
-keeps_all es = record { among = λ e there. there; exact = λ row time. (λ has. (has, λ there. none_in_nil row there), λ both. both.0); unique = λ unique. unique }
+keeps_all es = record { among = λ e there. inl there; exact = λ row time. (λ has. (has, λ there. none_in_nil row there), λ both. both.0); unique = λ unique. unique }
+
+-- no row is new
+keys_among : (es middle : List (List Value × List ℕ)) → ((e : List Value × List ℕ) → Contains middle e → Contains es e ⊎ ((e.1 ≡ []) × Contains (map (λ x. x.0) es) e.0)) → (row : List Value)
+    → Contains (map (λ x. x.0) middle) row → Contains (map (λ x. x.0) es) row
+keys_among es middle among row there =
+    let from = Contains-from_map (λ (x : List Value × List ℕ). x.0) middle row there in
+    subst (Contains (map (λ x. x.0) es)) from.2
+    (⊎_elim (λ before. Contains-map (λ (x : List Value × List ℕ). x.0) es from.0 before) (λ gone. gone.1) (among from.0 from.1))
 
 pub keeps_then : (done : List (List Value)) (row : List Value) (es middle after : List (List Value × List ℕ)) → KeepsRows (λ other. Contains done other → ⊥) es middle
     → KeepsRows (λ other. other ≡ row → ⊥) middle after → KeepsRows (λ other. Contains (done ++ row ∷ []) other → ⊥) es after
 keeps_then done row es middle after first second = record {
-  among = λ e there. first.among e (second.among e there);
+  among = λ e there. ⊎_elim (first.among e) (λ gone. inr (gone.0, keys_among es middle first.among e.0 gone.1)) (second.among e there);
   exact = λ other time. (
     λ has. let mid = (second.exact other time).0 has in let was = (first.exact other time).0 mid.0 in (
       was.0,
@@ -286,38 +337,22 @@ keeps_then done row es middle after first second = record {
   unique = λ unique. second.unique (first.unique unique);
 }
 
+-- and then those without times are taken out
+pub keeps_both : (S : List Value → Type 0) (es middle after : List (List Value × List ℕ)) → KeepsRows S es middle → KeepsRows (λ row. Unit {0}) middle after → KeepsRows S es after
+keeps_both S es middle after first second = record {
+  among = λ e there. ⊎_elim (first.among e) (λ gone. inr (gone.0, keys_among es middle first.among e.0 gone.1)) (second.among e there);
+  exact = λ row time. (λ has. (first.exact row time).0 ((second.exact row time).0 has).0, λ both. (second.exact row time).1 ((first.exact row time).1 both, tt));
+  unique = λ unique. second.unique (first.unique unique);
+}
+
+pub keeps_every : (es : List (List Value × List ℕ)) → KeepsRows (λ row. Unit {0}) es es
+keeps_every es = record { among = λ e there. inl there; exact = λ row time. (λ has. (has, tt), λ both. both.0); unique = λ unique. unique }
+
 -- in a list, up to a place
 pub next_of : {X : Type 0} (P : List X → Type 0) (rows : List X) (i : ℕ) (row : X) → i < length rows → row ≡ get_or rows i row → P (take i rows ++ row ∷ []) → P (take (i + 1) rows)
 next_of P rows i row below is holds = subst P (ap (λ r. take i rows ++ r ∷ []) is ∙ sym (take_more rows i row below)) holds
 
--- ---- an entry is taken out
-
-pub got : {X : Type 0} (xs : List X) (i : ℕ) (x : X) → slice_get xs i ≡ Some x → x ≡ get_or xs i x
-got [] i x is = absurd (none-some x is)
-got (y ∷ xs) zero x is = sym (same_Some y x is)
-got (y ∷ xs) (suc i) x is = got xs i x is
-
-there_is : {X : Type 0} (xs : List X) (i : ℕ) → i < length xs → None ≡ slice_get xs i → ⊥
-there_is [] i below none = omega (arith, below)
-there_is (y ∷ xs) zero below none = none-some y none
-there_is (y ∷ xs) (suc i) below none = there_is xs i (omega (arith, below)) none
-
-pub record TakesAt (es after : List (List Value × List ℕ)) (place : ℕ) : Type 0 where
-  pub taken : List Value × List ℕ
-  pub at : taken ≡ get_or es place taken
-  pub others : IsPermutation es (taken ∷ after)
-
-pub takes_at : (result : Option (List Value × List ℕ)) (es after : List (List Value × List ℕ)) (place : ℕ) → result ≡ slice_get es place → place < length es
-    → IfSome result (λ p. after ≡ swap_remove es place p) → (t : TakesAt es after place) × (result ≡ Some t.taken)
-takes_at None es after place is below left = absurd (there_is es place below is)
-takes_at (Some p) es after place is below left =
-    let at : p ≡ get_or es place p = got es place p (sym is) in
-    (record { taken = p; at = at; others = subst (λ l. IsPermutation es (p ∷ l)) (sym left) (IsPermutation-swap_remove es place p below at) }, refl)
-
-key_at : (es : List (List Value × List ℕ)) (place : ℕ) (d : List Value × List ℕ) → get_or (keys_of es) place d.0 ≡ (get_or es place d).0
-key_at [] place d = refl
-key_at (e ∷ es) zero d = refl
-key_at (e ∷ es) (suc place) d = key_at es place d
+-- ---- a row that is not there
 
 absent : (test : List Value → Bool) (es : List (List Value × List ℕ)) → lookup test es ≡ None → (e : List Value × List ℕ) → Contains es e → test e.0 ≡ true → ⊥
 absent test [] none e there passes = none_in_nil e there
@@ -327,51 +362,9 @@ absent test (f ∷ es) none e there passes = by (test f.0) refl none (λ rest be
     by true is found others = none-some f.1 (sym found)
     by false is rest others = ⊎_elim (λ same. false≢true (sym is ∙ ap (λ x. test x.0) same ∙ passes)) (others rest) (first_or_later e f es there)
 
-module _ (row : List Value) (es after : List (List Value × List ℕ)) (place : ℕ) (t : TakesAt es after place) where
-  among_taken : (e : List Value × List ℕ) → Contains after e → Contains es e
-  among_taken e there = Contains-permutation (t.taken ∷ after) es e (IsPermutation-sym es (t.taken ∷ after) t.others) (later e t.taken after there)
-
-  taken_or_stays : (e : List Value × List ℕ) → Contains es e → (t.taken ≡ e) ⊎ Contains after e
-  taken_or_stays e there = first_or_later e t.taken after (Contains-permutation es (t.taken ∷ after) e t.others there)
-
-  is_taken : Some place ≡ position (rows.eq-value.it row) (keys_of es) → row ≡ t.taken.0
-  is_taken found =
-      let at = position-Some (rows.eq-value.it row) (keys_of es) place t.taken.0 (sym found) in
-      (derived_row_eq-Decides row t.taken.0).0 (ap (λ k. rows.eq-value.it row k) (ap (λ e. e.0) t.at ∙ sym (key_at es place t.taken)) ∙ at.1)
-
-  gone : Some place ≡ position (rows.eq-value.it row) (keys_of es) → lookup (rows.eq-value.it t.taken.0) after ≡ None → (times : List ℕ) → Contains after (row, times) → ⊥
-  gone found none times there = absent (rows.eq-value.it t.taken.0) after none (row, times) there ((derived_row_eq-Decides t.taken.0 row).1 (sym (is_taken found)))
-
-  pub forgets_at : Some place ≡ position (rows.eq-value.it row) (keys_of es) → lookup (rows.eq-value.it t.taken.0) after ≡ None → HasNoRepeats (map (λ e. e.0) after)
-      → KeepsRows (λ other. other ≡ row → ⊥) es after
-  forgets_at found none unique = record {
-    among = among_taken;
-    exact = λ other time. (
-      λ has. ((has.0, among_taken (other, has.0) has.1, has.2), λ same. gone found none has.0 (subst (λ r. Contains after (r, has.0)) same has.1)),
-      λ both. ⊎_elim (λ same. absurd (both.1 (sym (ap (λ e. e.0) same) ∙ sym (is_taken found)))) (λ behind. (both.0.0, behind, both.0.2)) (taken_or_stays (other, both.0.0) both.0.1),
-    );
-    unique = λ before. unique;
-  }
-
-  -- it is emitted with times that are all past the end
-  pub ended_at : (interval : Interval) (now : ℕ) → ((time : ℕ) → Contains t.taken.1 time → IsEndedTime interval.high now time) → Forgets interval now es after
-  ended_at interval now ended = record {
-    from = λ other time has. (has.0, among_taken (other, has.0) has.1, has.2);
-    behind = λ other time has. (has.0, among_taken (other, has.0) has.1, has.2);
-    serves = λ other time has. ⊎_elim (λ same. inr (ended time (subst (λ x. Contains x.1 time) (sym same) has.2)))
-        (λ stays. inl (itself interval.high interval.low now (HasTime after other) time (has.0, stays, has.2)))
-        (taken_or_stays (other, has.0) has.1);
-  }
-
-  pub settled_at : (high low now : ℕ) → Some place ≡ position (rows.eq-value.it row) (keys_of es) → lookup (rows.eq-value.it t.taken.0) after ≡ None → IsSettledRow high low now after row
-  settled_at high low now found none = λ time. (λ has. absurd (gone found none has.0 has.1), λ has. absurd (gone found none has.0 has.1))
-
-  pub kept_at : (long last : ℕ) → HasNoRepeats (map (λ e. e.0) after) → AreWindowEntries long last es → AreWindowEntries long last after
-  kept_at long last unique kept = kept_fewer long last es after kept among_taken unique
-
 pub forgets_missing : (row : List Value) (es : List (List Value × List ℕ)) → lookup (rows.eq-value.it row) es ≡ None → KeepsRows (λ other. other ≡ row → ⊥) es es
 forgets_missing row es none = record {
-  among = λ e there. there;
+  among = λ e there. inl there;
   exact = λ other time. (λ has. (has, λ same. absent (rows.eq-value.it row) es none (other, has.0) has.1 ((derived_row_eq-Decides row other).1 (sym same))), λ both. both.0);
   unique = λ unique. unique;
 }
@@ -385,24 +378,36 @@ settled_missing high low now row es none = λ time. (λ has. absurd (not_there h
 -- ---- what a table keeps
 
 module _ {F : Type 0} (T : F → List Value → List ℕ → Bool → List ℕ → F → Type 0) (S : List Value → Type 0) (X : Type 0) (f : F)
-    (says : (k : List Value) (v : List ℕ) (b : Bool) (w : List ℕ) (g : F) → T f k v b w g → (IsTrue b ↔ S k) × (w ≡ v) × (g ≡ f) × X) where
-  stays : (es kept : List (List Value × List ℕ)) → RetainsPairs T f es kept → (e : List Value × List ℕ) → Contains kept e ↔ (Contains es e × S e.0)
-  stays [] kept h e = (λ there. absurd (none_in_nil e (subst (λ l. Contains l e) h there)), λ both. absurd (none_in_nil e both.0))
-  stays (x ∷ es) kept h e =
+    (says : (k : List Value) (v : List ℕ) (b : Bool) (w : List ℕ) (g : F) → T f k v b w g → IsTrue b × IsLetGoUnless (S k) v w × (g ≡ f) × X) where
+  -- each entry that is left was there, or its times went
+  left_from : (es kept : List (List Value × List ℕ)) → RetainsPairs T f es kept → (e : List Value × List ℕ) → Contains kept e
+      → (Contains es e × S e.0) ⊎ ((e.1 ≡ []) × Contains (map (λ x. x.0) es) e.0)
+  left_from [] kept h e there = absurd (none_in_nil e (subst (λ l. Contains l e) h there))
+  left_from (x ∷ es) kept h e there =
       let s = says x.0 x.1 h.0 h.1 h.2 h.4 in
-      by h.0 refl s.0 (h.6 ∙ (λ j. cond h.0 ((x.0, s.1 j) ∷ h.3) h.3)) (stays es h.3 (subst (λ g. RetainsPairs T g es h.3) s.2 h.5) e)
-    where
-      by : (b : Bool) → h.0 ≡ b → IsTrue b ↔ S x.0 → kept ≡ cond b (x ∷ h.3) h.3 → Contains h.3 e ↔ (Contains es e × S e.0) → Contains kept e ↔ (Contains (x ∷ es) e × S e.0)
-      by true is tells left rest = (
-        λ there. ⊎_elim (λ same. ((0, omega arith, same), subst (λ y. S y.0) same (tells.0 refl))) (λ behind. let both = rest.0 behind in (later e x es both.0, both.1))
-            (first_or_later e x h.3 (subst (λ l. Contains l e) left there)),
-        λ both. subst (λ l. Contains l e) (sym left) (⊎_elim (λ same. (0, omega arith, same)) (λ behind. later e x h.3 (rest.1 (behind, both.1))) (first_or_later e x es both.0)),
-      )
-      by false is tells left rest = (
-        λ there. let both = rest.0 (subst (λ l. Contains l e) left there) in (later e x es both.0, both.1),
-        λ both. subst (λ l. Contains l e) (sym left) (⊎_elim (λ same. absurd (false≢true (tells.1 (subst (λ y. S y.0) (sym same) both.1)))) (λ behind. rest.1 (behind, both.1))
-            (first_or_later e x es both.0)),
-      )
+      let left : kept ≡ (x.0, h.1) ∷ h.3 = h.6 ∙ ap (λ b. cond b ((x.0, h.1) ∷ h.3) h.3) s.0 in
+      ⊎_elim
+      (λ same. ⊎_elim
+      (λ stays. inl ((0, omega arith, (λ i. (x.0, sym stays.1 i)) ∙ same), subst S (ap (λ y. y.0) same) stays.0))
+      (λ gone. inr (sym (ap (λ y. y.1) same) ∙ gone.1, (0, omega arith, ap (λ y. y.0) same))) s.1)
+      (λ behind. ⊎_elim (λ both. inl (later e x es both.0, both.1)) (λ gone. inr (gone.0, later e.0 x.0 (map (λ y. y.0) es) gone.1))
+      (left_from es h.3 (subst (λ g. RetainsPairs T g es h.3) s.2 h.5) e behind))
+      (first_or_later e (x.0, h.1) h.3 (subst (λ l. Contains l e) left there))
+
+  left_all : (es kept : List (List Value × List ℕ)) → RetainsPairs T f es kept → (e : List Value × List ℕ) → Contains es e → S e.0 → Contains kept e
+  left_all [] kept h e there survives = absurd (none_in_nil e there)
+  left_all (x ∷ es) kept h e there survives =
+      let s = says x.0 x.1 h.0 h.1 h.2 h.4 in
+      let left : kept ≡ (x.0, h.1) ∷ h.3 = h.6 ∙ ap (λ b. cond b ((x.0, h.1) ∷ h.3) h.3) s.0 in
+      subst (λ l. Contains l e) (sym left) (⊎_elim
+      (λ same. ⊎_elim (λ stays. (0, omega arith, (λ i. (x.0, stays.1 i)) ∙ same)) (λ gone. absurd (gone.0 (subst S (sym (ap (λ y. y.0) same)) survives))) s.1)
+      (λ behind. later e (x.0, h.1) h.3 (left_all es h.3 (subst (λ g. RetainsPairs T g es h.3) s.2 h.5) e behind survives)) (first_or_later e x es there))
+
+  pub rows_said : (es kept : List (List Value × List ℕ)) → RetainsPairs T f es kept → map (λ e. e.0) kept ≡ map (λ e. e.0) es
+  rows_said [] kept h = ap (map (λ e. e.0)) h
+  rows_said (x ∷ es) kept h =
+      let s = says x.0 x.1 h.0 h.1 h.2 h.4 in
+      ap (map (λ e. e.0)) (h.6 ∙ ap (λ b. cond b ((x.0, h.1) ∷ h.3) h.3) s.0) ∙ ap (λ l. x.0 ∷ l) (rows_said es h.3 (subst (λ g. RetainsPairs T g es h.3) s.2 h.5))
 
   -- and what is known once the first is asked for
   pub known_said : (es kept : List (List Value × List ℕ)) → RetainsPairs T f es kept → IsAnyRow es → X
@@ -412,12 +417,24 @@ module _ {F : Type 0} (T : F → List Value → List ℕ → Bool → List ℕ �
   pub keeps_said : (es kept : List (List Value × List ℕ)) → RetainsPairs T f es kept → HasNoRepeats (map (λ e. e.0) kept) → KeepsRows S es kept
   keeps_said es kept h unique = record {
     unique = λ before. unique;
-    among = λ e there. ((stays es kept h e).0 there).0;
+    among = λ e there. ⊎_elim (λ both. inl both.0) (λ gone. inr gone) (left_from es kept h e there);
     exact = λ row time. (
-      λ has. let both = (stays es kept h (row, has.0)).0 has.1 in ((has.0, both.0, has.2), both.1),
-      λ both. (both.0.0, (stays es kept h (row, both.0.0)).1 (both.0.1, both.1), both.0.2),
+      λ has. ⊎_elim (λ both. ((has.0, both.0, has.2), both.1)) (λ gone. absurd (none_in_nil time (subst (λ l. Contains l time) gone.0 has.2)))
+          (left_from es kept h (row, has.0) has.1),
+      λ both. (both.0.0, left_all es kept h (row, both.0.0) both.0.1 both.1, both.0.2),
     );
   }
+
+-- ---- what has times is kept
+
+module _ {F : Type 0} (T : F → List Value → List ℕ → Bool → List ℕ → F → Type 0) (f : F)
+    (says : (k : List Value) (v : List ℕ) (b : Bool) (w : List ℕ) (g : F) → T f k v b w g → (b ≡ is_some_time v) × (w ≡ v) × (g ≡ f)) where
+  pub compacted : (es kept : List (List Value × List ℕ)) → RetainsPairs T f es kept → kept ≡ kept_entries es
+  compacted [] kept h = h
+  compacted (x ∷ es) kept h =
+      let s = says x.0 x.1 h.0 h.1 h.2 h.4 in
+      let rest = compacted es h.3 (subst (λ g. RetainsPairs T g es h.3) s.2 h.5) in
+      h.6 ∙ (λ i. cond (s.0 i) ((x.0, s.1 i) ∷ rest i) (rest i))
 
 pub some_at : {X : Type 0} (r : Option X) (x : X) (P : X → Type 0) → r ≡ Some x → IfSome r P → P x
 some_at None x P is holds = absurd (none-some x is)

@@ -1,8 +1,8 @@
 -- What is left of rows and steps at a time, where each row of an ended step was settled, and then each of one that is far.
-use Rattle.windows.proofs.Vocabulary.{◌≡◌, ⊎_elim, ℕ, ◌-◌, ◌<◌, ◌≤◌, List, [], ◌∷◌, drop, All, Contains, Option, Some, sym, subst, arith, All-contains, Interval, Value, cases_le, all_from, later}
-use Rattle.windows.proofs.Vocabulary.{AreWindowEntries, AreLeast, Forgets, HasBehind, HasTime, IsSettledRow, Queue, AreInReach, AreQueued, AreUpToTime, IsInStep, LetsGo, waiting_of, IsEndedTime}
-use Rattle.windows.proofs.Vocabulary.{AreLeastTimes}
-use Rattle.windows.proofs.EntryLemmas.{fit_of, least_of}
+use Rattle.windows.proofs.Vocabulary.{◌≡◌, ◌⊎◌, inl, inr, refl, ⊎_elim, ℕ, ◌-◌, ◌<◌, ◌≤◌, List, [], ◌∷◌, drop, All, Contains, Option, Some, sym, subst, arith, All-contains, Interval, Value, cases_le}
+use Rattle.windows.proofs.Vocabulary.{all_from, later, AreWindowEntries, AreLeast, Forgets, HasBehind, HasTime, IsSettledRow, Queue, AreInReach, AreQueued, AreUpToTime, IsInStep, LetsGo, waiting_of}
+use Rattle.windows.proofs.Vocabulary.{IsEndedTime, AreLeastTimes}
+use Rattle.windows.proofs.EntryLemmas.{least_with}
 use Rattle.windows.proofs.TimeLemmas.{least_from, least_near}
 
 behind_among : (times : List ℕ) (time : ℕ) → Contains (drop 1 times) time → Contains times time
@@ -11,6 +11,12 @@ behind_among (t ∷ times) time there = later time t times there
 
 has_behind : (es : List (List Value × List ℕ)) (row : List Value) (time : ℕ) → HasBehind es row time → HasTime es row time
 has_behind es row time has = (has.0, has.1, behind_among has.0 time has.2)
+
+-- times of which none is past the end, and none but the first far enough
+none_or_least : (high : Option ℕ) (end low now : ℕ) (times : List ℕ) → high ≡ Some end → ((time : ℕ) → Contains times time → now - time ≤ end)
+    → ((time : ℕ) → Contains (drop 1 times) time → now - time < low) → (times ≡ []) ⊎ AreLeastTimes high low now times
+none_or_least high end low now [] is live near = inl refl
+none_or_least high end low now (t ∷ times) is live near = inr (subst (λ h. AreLeastTimes h low now (t ∷ times)) (sym is) (least_from end low now (t ∷ times) (omega arith) live near))
 
 pub still_up_to : (Gone Passed : ℕ → Type 0) (now : ℕ) (before after : Queue) → LetsGo Gone Passed before after → AreUpToTime now before.steps → AreUpToTime now after.steps
 still_up_to Gone Passed now before after goes up_to = all_from (λ s. s.time ≤ now) after.steps (λ step there. All-contains (λ s. s.time ≤ now) before.steps step up_to (goes.among step there))
@@ -42,13 +48,12 @@ module _ (interval : Interval) (high last now : ℕ) (es e1 : List (List Value �
 
   -- where 0 is far enough, no row has more than one time
   pub least1 : (long : ℕ) → AreWindowEntries long now e1 → AreLeast interval last es → (0 < interval.low → ⊥) → AreLeast interval now e1
-  least1 long kept least near = all_from (λ e. AreLeastTimes interval.high interval.low now e.1) e1 (λ e there.
-      subst (λ h. AreLeastTimes h interval.low now e.1) (sym is)
-      (least_from high interval.low now e.1 (fit_of long now e1 e.0 e.1 kept there).2 (λ time has. live e.0 time (e.1, there, has))
+  least1 long kept least near = all_from (λ e. (e.1 ≡ []) ⊎ AreLeastTimes interval.high interval.low now e.1) e1 (λ e there.
+      none_or_least interval.high high interval.low now e.1 is (λ time has. live e.0 time (e.1, there, has))
       (λ time has. let was = f1.behind e.0 time (e.1, there, has) in
       let left : last - time < interval.low = least_near high interval.low last was.0
-      (subst (λ h. AreLeastTimes h interval.low last was.0) is (least_of interval last es e.0 was.0 least was.1)) time was.2 in
-      absurd (near (omega (arith, left))))))
+      (subst (λ h. AreLeastTimes h interval.low last was.0) is (least_with interval last es e.0 was.0 time least was.1 (behind_among was.0 time was.2))) time was.2 in
+      absurd (near (omega (arith, left)))))
 
   module _ (e2 : List (List Value × List ℕ)) (q2 : Queue) (f2 : Forgets interval now e1 e2)
       (s2 : (row : List Value) (time : ℕ) → IsInStep (waiting_of q1) row time → interval.low ≤ now - time → IsSettledRow high interval.low now e2 row)
@@ -66,7 +71,6 @@ module _ (interval : Interval) (high last now : ℕ) (es e1 : List (List Value �
     }
 
     pub least2 : (long : ℕ) → AreWindowEntries long now e2 → AreLeast interval now e2
-    least2 long kept = all_from (λ e. AreLeastTimes interval.high interval.low now e.1) e2 (λ e there.
-        subst (λ h. AreLeastTimes h interval.low now e.1) (sym is)
-        (least_from high interval.low now e.1 (fit_of long now e2 e.0 e.1 kept there).2 (λ time has. live e.0 time (f2.from e.0 time (e.1, there, has)))
-        (λ time has. near2 e.0 time (e.1, there, has))))
+    least2 long kept = all_from (λ e. (e.1 ≡ []) ⊎ AreLeastTimes interval.high interval.low now e.1) e2 (λ e there.
+        none_or_least interval.high high interval.low now e.1 is (λ time has. live e.0 time (f2.from e.0 time (e.1, there, has)))
+        (λ time has. near2 e.0 time (e.1, there, has)))

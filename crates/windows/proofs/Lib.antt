@@ -6,6 +6,7 @@ pub mod EntryLemmas
 pub mod ExpiryLemmas
 pub mod GivenLaws
 pub mod HeldLemmas
+pub mod IndexLemmas
 pub mod KeptLaws
 pub mod KeptTimeLemmas
 pub mod LeastLemmas

@@ -10,6 +10,7 @@ use Rattle.windows.proofs.KeptLaws.{rises_append, rises_map, stored_long, stored
 use Rattle.windows.proofs.EntryLemmas.{forgets_missing}
 use Rattle.windows.proofs.LeastLemmas.{chosen_of_fewer, of_times, one_entry}
 use Rattle.windows.proofs.TimeLemmas.{up_to}
+use Rattle.windows.proofs.WindowLemmas.{kept_from, to_view}
 use Rattle.enf_data.specs.contracts.rows.RowPartialEq.TheImpl as rows
 
 -- ---- lists that rise
@@ -109,7 +110,7 @@ put_all f old out xs i so_far over = so_far ∙ ap (λ l. old ++ map f l) (take_
 pub times_of_row : (long last : ℕ) (entries : List (List Value × List ℕ)) (row : List Value) (times : List ℕ) → AreWindowEntries long last entries → Contains entries (row, times)
     → AreTimesOf entries row times
 times_of_row long last entries row times kept there = record {
-  rise = times_rise last times (All-contains (λ e. (length e.0 ≡ long) × RiseTo last e.1 × (0 < length e.1)) entries (row, times) kept.fit there).1;
+  rise = times_rise last times (All-contains (λ e. (length e.0 ≡ long) × RiseTo last e.1) entries (row, times) kept.fit there).1;
   exact = λ time. (λ has. (times, there, has), λ has. subst (λ t. Contains t time) (one_entry entries kept.unique row has.0 times has.1 there) has.2);
 }
 
@@ -123,10 +124,10 @@ no_times entries row none = record {
 
 module _ (window : Window) (least : KeepsLeast window) (es : List (List Value × List ℕ)) (is : kept_entries es ≡ window.kept) where
   to_stored : (row : List Value) (time : ℕ) → HasTime es row time → Stores window row time
-  to_stored row time has = (has.0, subst (λ l. Contains l (row, has.0)) is has.1, has.2)
+  to_stored row time has = (has.0, subst (λ l. Contains l (row, has.0)) is (to_view es row has.0 time has.1 has.2), has.2)
 
   from_stored : (row : List Value) (time : ℕ) → Stores window row time → HasTime es row time
-  from_stored row time stored = (stored.0, subst (λ l. Contains l (row, stored.0)) (sym is) stored.1, stored.2)
+  from_stored row time stored = (stored.0, (kept_from es (row, stored.0) (subst (λ l. Contains l (row, stored.0)) (sym is) stored.1)).0, stored.2)
 
   pub are_pairs : (t : Relation) (pairs : List KeptPair) → IsTable t → t.columns ≡ window.columns → ((v : Valuation) → HasValuation t v ↔ ((time : ℕ) × HasRow window v time))
       → ArePairsOfRows es t.rows pairs

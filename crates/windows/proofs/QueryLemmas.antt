@@ -1,7 +1,7 @@
 -- Cells, one after another.
 use Rattle.windows.proofs.Vocabulary.{◌≡◌, ◌∙◌, ℕ, suc, ◌+◌, ◌<◌, Bool, true, false, List, ◌∷◌, length, map, get_or, drop, refl, ap, sym, arith, drop-cons, get_or-map, flat_map, fold, fed_then}
-use Rattle.windows.proofs.Vocabulary.{Valuation, value_at, VarId, Value, cell_eq, cell_fed, cells, cells_eq}
-use Rattle.std.specs.Prelude.{Option, Some, ◌&&◌}
+use Rattle.windows.proofs.Vocabulary.{Valuation, value_at, VarId, Value, cell_eq, cell_fed, cells, cells_eq, length-map, none-some, Num}
+use Rattle.std.specs.Prelude.{Option, None, Some, pos, ◌&&◌}
 
 -- the item at a place, and what is after it
 next_is : {X : Type 0} (xs : List X) (i : ℕ) (x : X) → i < length xs → get_or xs i x ≡ x → drop i xs ≡ x ∷ drop (i + 1) xs
@@ -30,3 +30,13 @@ fed_next write xs i x before after below is fed =
 
 pub some_at : (row : List Value) (i : ℕ) (x : Value) → i < length row → x ≡ get_or row i x → get_or (map Some row) i (Some x) ≡ Some x
 some_at row i x below is = get_or-map Some row i x (Some x) below ∙ ap Some (sym is)
+
+-- a column that is not bound has no value in a row
+pub no_whole : (columns : List VarId) (v : Valuation) (i : ℕ) (d : VarId) → i < length columns → None ≡ value_at v (get_or columns i d) → (row : List Value) → cells columns v ≡ map Some row → ⊥
+no_whole columns v i d below none row whole =
+    let long : length columns ≡ length row = sym (length-map columns (value_at v)) ∙ ap length whole ∙ length-map {B = Option Value} row Some in
+    none-some (get_or row i (Num (pos 0)))
+    (sym (cell_at columns v i d None below none) ∙ ap (λ l. get_or l i None) whole ∙ get_or-map Some row i (Num (pos 0)) None (omega (arith, below, long)))
+
+pub cells_long : (columns : List VarId) (v : Valuation) (row : List Value) → cells columns v ≡ map Some row → length row ≡ length columns
+cells_long columns v row whole = sym (length-map {B = Option Value} row Some) ∙ sym (ap length whole) ∙ length-map columns (value_at v)

@@ -1,7 +1,7 @@
 -- Steps in a queue.
 use Rattle.windows.proofs.Vocabulary.{length, ◌≡◌, ◌⊎◌, inl, inr, ⊎_elim, ℕ, zero, suc, ◌-◌, ◌<◌, ◌≤◌, List, [], ◌∷◌, ◌++◌, drop, get_or, All, Contains, refl, sym, ap, subst, arith, length-append}
 use Rattle.windows.proofs.Vocabulary.{◌∙◌, All-contains, All-nil, All-push, Contains-append_right, Value, all_from, here, later, first_or_later, AddAtMost, Queue, AreQueued, AreUpToTime, IsInStep}
-use Rattle.windows.proofs.Vocabulary.{IsStepQueue, LetsGo, StepsNeverFall, waiting_of, LastStep}
+use Rattle.windows.proofs.Vocabulary.{IsStepQueue, map, none_in_nil, LetsGo, StepsNeverFall, waiting_of, LastStep}
 
 -- a step that is not earlier goes last
 push_ordered : (steps : List LastStep) (step : LastStep) → StepsNeverFall steps → AreUpToTime step.time steps → StepsNeverFall (steps ++ step ∷ [])
@@ -90,10 +90,13 @@ waiting_among zero steps step there = there
 waiting_among (suc far) [] step there = there
 waiting_among (suc far) (s ∷ steps) step there = later step s steps (waiting_among far steps step there)
 
-pub queued_fewer : (es after : List (List Value × List ℕ)) (queue : Queue) → ((e : List Value × List ℕ) → Contains after e → Contains es e) → AreQueued es queue → AreQueued after queue
+pub queued_fewer : (es after : List (List Value × List ℕ)) (queue : Queue)
+    → ((e : List Value × List ℕ) → Contains after e → Contains es e ⊎ ((e.1 ≡ []) × Contains (map (λ x. x.0) es) e.0)) → AreQueued es queue → AreQueued after queue
 queued_fewer es after queue among queued = record {
-  times = λ row time has. queued.times row time (has.0, among (row, has.0) has.1, has.2);
-  waiting = λ row time has. queued.waiting row time (has.0, among (row, has.0) has.1, has.2);
+  times = λ row time has. ⊎_elim (λ before. queued.times row time (has.0, before, has.2)) (λ gone. absurd (none_in_nil time (subst (λ l. Contains l time) gone.0 has.2)))
+      (among (row, has.0) has.1);
+  waiting = λ row time has. ⊎_elim (λ before. queued.waiting row time (has.0, before, has.2))
+      (λ gone. absurd (none_in_nil time (subst (λ (l : List ℕ). Contains (drop 1 l) time) gone.0 has.2))) (among (row, has.0) has.1);
 }
 
 pub queued_added : (now : ℕ) (R : List Value → Type 0) (es after : List (List Value × List ℕ)) (queue : Queue) → AddAtMost now R es after

@@ -1,6 +1,7 @@
 -- A window that is made of pairs.
-use Rattle.windows.proofs.Vocabulary.{◌≡◌, ◌∙◌, ◌↔◌, ⊎_elim, ℕ, ◌-◌, ◌<◌, ◌≤◌, List, [], ◌∷◌, ◌++◌, map, drop, length, All, Contains, Option, None, Some, refl, sym, ap, subst, arith, length-append}
-use Rattle.windows.proofs.Vocabulary.{int_cmp_total, tied_itself, nat_list_cmp_total, ordering_then, Less, Equal, cases_lt, All-contains, All-nil, All-push, Contains-append_cases}
+use Rattle.windows.proofs.WindowLemmas.{kept_from, to_view}
+use Rattle.windows.proofs.Vocabulary.{inr, ◌⊎◌, ◌≡◌, ◌∙◌, ◌↔◌, ⊎_elim, ℕ, ◌-◌, ◌<◌, ◌≤◌, List, [], ◌∷◌, ◌++◌, map, drop, length, All, Contains, Option, None, Some, refl, sym, ap, subst, arith}
+use Rattle.windows.proofs.Vocabulary.{length-append, int_cmp_total, tied_itself, nat_list_cmp_total, ordering_then, Less, Equal, cases_lt, All-contains, All-nil, All-push, Contains-append_cases}
 use Rattle.windows.proofs.Vocabulary.{Contains-append_left, Contains-append_right, HasNoRepeats, row_cmp, value_cmp, Interval, VarId, Value, Num, Text, all_from, here, later, first_or_later}
 use Rattle.windows.proofs.Vocabulary.{none_in_nil, Contains-from_map, Contains-map, ChosenBy, IsPairBefore, IsRisingBy, pair, AreBefore, AreEntriesOf, AreKeepable, HaveStepsOf, HaveTimesOf}
 use Rattle.windows.proofs.Vocabulary.{AreWindowEntries, AreLeast, HasBehind, HasTime, Queue, AreInReach, IsInStep, AreLeastTimes, RiseTo, IsWindow, kept_entries, KeptPair}
@@ -147,12 +148,11 @@ module _ (interval : Interval) (columns : List VarId) (last : ℕ) (pairs : List
 
   pub restored_kept : AreWindowEntries (length columns) last es
   restored_kept = record {
-    fit = all_from (λ e. (length e.0 ≡ length columns) × RiseTo last e.1 × (0 < length e.1)) es (λ e there.
+    fit = all_from (λ e. (length e.0 ≡ length columns) × RiseTo last e.1) es (λ e there.
         let fit = All-contains (λ f. (0 < length f.1) × IsRisingBy ◌<◌ f.1) es e are.fit there in
         let first = some_time e.1 fit.0 in (
           All-contains (λ p. length p.row ≡ length columns) pairs (pair e.0 first.0) keepable.fit ((times_of e.0 e.1 there first.0).0 first.1),
           rise_to last e.1 (λ t has. All-contains (λ p. p.time ≤ last) pairs (pair e.0 t) keepable.up_to ((times_of e.0 e.1 there t).0 has)) fit.1,
-          fit.0,
         ));
     unique = are.unique;
   }
@@ -162,10 +162,10 @@ module _ (interval : Interval) (columns : List VarId) (last : ℕ) (pairs : List
       some_time (t ∷ times) some = (t, here t times)
 
   pub restored_least : AreLeast interval last es
-  restored_least = all_from (λ e. AreLeastTimes interval.high interval.low last e.1) es (λ e there.
+  restored_least = all_from (λ e. (e.1 ≡ []) ⊎ AreLeastTimes interval.high interval.low last e.1) es (λ e there.
       let fit = All-contains (λ f. (0 < length f.1) × IsRisingBy ◌<◌ f.1) es e are.fit there in
-      least_of_chosen interval.high interval.low last e.1 fit.0 fit.1 (λ t has.
-      among interval.high e.0 e.1 there t (keepable.chosen e.0 t ((times_of e.0 e.1 there t).0 has))))
+      inr (least_of_chosen interval.high interval.low last e.1 fit.0 fit.1 (λ t has.
+      among interval.high e.0 e.1 there t (keepable.chosen e.0 t ((times_of e.0 e.1 there t).0 has)))))
     where
       among : (high : Option ℕ) (row : List Value) (times : List ℕ) → Contains es (row, times) → (t : ℕ)
           → ChosenBy high interval.low last (λ other. Contains pairs (pair row other)) t → ChosenBy high interval.low last (Contains times) t
@@ -174,7 +174,7 @@ module _ (interval : Interval) (columns : List VarId) (last : ℕ) (pairs : List
 
   module _ (queue : Queue) (distinct : HasNoRepeats columns) (far : queue.far ≡ 0) (within : HaveTimesOf pairs queue.steps) (none : interval.high ≡ None → queue.steps ≡ [])
       (steps : (high : ℕ) → interval.high ≡ Some high → HaveStepsOf pairs queue.steps) where
-    pub restored : IsWindow interval columns last es queue
+    pub restored : IsWindow interval columns last es queue None
     restored = record {
       distinct = distinct;
       kept = restored_kept;
@@ -182,6 +182,7 @@ module _ (interval : Interval) (columns : List VarId) (last : ℕ) (pairs : List
       up_to = all_from (λ s. s.time ≤ last) queue.steps (λ s there. let at = within s there in
           subst (λ t. t ≤ last) (sym at.2) (All-contains (λ p. p.time ≤ last) pairs at.0 keepable.up_to at.1));
       in_reach = in_reach interval.high refl;
+      indexed = tt;
       queued = λ high is. record {
         times = λ row time has. steps high is (pair row time) ((are.exact (pair row time)).0 has);
         waiting = λ row time has. subst (λ n. IsInStep (drop n queue.steps) row time) (sym far) (steps high is (pair row time) ((are.exact (pair row time)).0 (behind row time has)));
@@ -206,8 +207,8 @@ module _ (interval : Interval) (columns : List VarId) (last : ℕ) (pairs : List
   pub restored_pairs : (kept : List (List Value × List ℕ)) → kept ≡ kept_entries es → (row : List Value) (time : ℕ)
       → Contains pairs (pair row time) ↔ ((times : List ℕ) × Contains kept (row, times) × Contains times time)
   restored_pairs kept is row time = (
-    λ there. let has = (are.exact (pair row time)).1 there in (has.0, subst (λ l. Contains l (row, has.0)) (sym is) has.1, has.2),
-    λ stored. (are.exact (pair row time)).0 (stored.0, subst (λ l. Contains l (row, stored.0)) is stored.1, stored.2),
+    λ there. let has = (are.exact (pair row time)).1 there in (has.0, subst (λ l. Contains l (row, has.0)) (sym is) (to_view es row has.0 time has.1 has.2), has.2),
+    λ stored. (are.exact (pair row time)).0 (stored.0, (kept_from es (row, stored.0) (subst (λ l. Contains l (row, stored.0)) is stored.1)).0, stored.2),
   )
 
 -- ---- the rows of pairs

@@ -6,7 +6,7 @@ use Rattle.windows.proofs.Vocabulary.{row_cell, AreWindowEntries, IsSomeIn, cell
 use Rattle.windows.proofs.Vocabulary.{SurvivesFor, kept_entries, LastStep, Surviving}
 use Rattle.windows.proofs.EntryLemmas.{fit_of}
 use Rattle.windows.proofs.LeastLemmas.{one_entry}
-use Rattle.windows.proofs.WindowLemmas.{from_view}
+use Rattle.windows.proofs.WindowLemmas.{to_view, from_view}
 use Rattle.windows.specs.declared.surviving_rows.Surviving.TheVariants as seen
 
 -- the values of the columns are a row's just where the valuation agrees with it
@@ -73,7 +73,7 @@ module _ (interval : Interval) (columns : List VarId) (last : ℕ) (es : List (L
       let found = looked passes es times is in
       let agrees : AgreesWithRow v columns found.0 = cells_agree columns v found.0 distinct ((cells_eq-Decides (cells columns v) (map Some found.0)).0 found.2) in (
         λ yes. let some = tells.0 yes in
-            (some.0, some.2, (found.0, times, found.1, some.1, agrees)),
+            (some.0, some.2, (found.0, times, to_view es found.0 times some.0 found.1 some.1, some.1, agrees)),
         λ remembered. let has = remembered.2 in
             let entry = from_view es has.0 has.1 has.2 in
             let row : has.0 ≡ found.0 = agrees_once v columns has.0 found.0 distinct (fit_of (length columns) last es has.0 entry.0 kept entry.1).0

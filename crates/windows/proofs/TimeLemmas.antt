@@ -1,10 +1,10 @@
 -- The times of one row.
-use Rattle.windows.proofs.Vocabulary.{◌≡◌, ◌∙◌, ◌↔◌, ◌⊎◌, inl, inr, ⊎_elim, ℕ, zero, suc, ◌-◌, ◌<◌, ◌≤◌, List, [], ◌∷◌, ◌++◌, length, drop, leb, All, get_or, Contains, Option, None, Some, refl, sym}
+use Rattle.windows.proofs.Vocabulary.{◌≡◌, ◌∙◌, ◌⊎◌, inl, inr, ⊎_elim, ℕ, zero, suc, ◌-◌, ◌<◌, ◌≤◌, List, [], ◌∷◌, ◌++◌, length, drop, leb, All, get_or, Contains, Option, None, Some, refl, sym}
 use Rattle.windows.proofs.Vocabulary.{ap, subst, arith, All-contains, All-nil, All-push, Contains-append_cases, Contains-append_left, Contains-push, Contains-get_or, cases_le, cases_lt, leb_tells}
 use Rattle.windows.proofs.Vocabulary.{IsRisingBy, IsUpTo, slice_get, same_Some, none-some, Interval, here, later, first_or_later, none_in_nil, there_from_get, IsIn, all_from, AddsAtMost, AddsTime}
-use Rattle.windows.proofs.Vocabulary.{ForgetsTimes, IsSomeIn, IsEndedTime, AreLeastTimes, IsServedTime, RiseTo}
+use Rattle.windows.proofs.Vocabulary.{ForgetsTimes, IsSomeIn, IsEndedTime, AreLeastTimes, IsServedTime, RiseTo, false, false≢true}
 use Rattle.windows.proofs.KeptLaws.{rises_append}
-use Rattle.windows.specs.machine.RowTimes.{IsFirstPassed}
+use Rattle.windows.specs.machine.RowTimes.{IsFirstPassed, is_some_time}
 use Rattle.windows.specs.machine.WindowEntries.{SettlesTimes}
 use Rattle.std.specs.Prelude.{Result, Ok, Err, OnOk, OnErr}
 use Rattle.std.specs.List.Sorted.{IsPartitionedBy}
@@ -85,53 +85,86 @@ forgets_none high low now times = record {
   serves = λ time there. inl (time, omega arith, inl refl, there);
 }
 
+-- the last one is passed
+forgets_last : (high low now : ℕ) (before : List ℕ) (t : ℕ) → high < now - t → ForgetsTimes high low now before (t ∷ []) → ForgetsTimes high low now before []
+forgets_last high low now before t past forgets = record {
+  from = λ time there. absurd (none_in_nil time there);
+  behind = λ time there. absurd (none_in_nil time there);
+  serves = λ time there. inr (⊎_elim
+      (λ by. let same : t ≡ by.0 = ⊎_elim (λ e. e) (λ none. absurd (none_in_nil by.0 none)) (first_or_later by.0 t [] by.3) in omega (arith, same, past, by.1))
+      (λ ended. ended) (forgets.serves time there));
+}
+
 -- how far the front is passed
 pub record Passes (high low now : ℕ) (before left : List ℕ) : Type 0 where
   pub rise : RiseTo now left
   pub forgets : ForgetsTimes high low now before left
-  pub some : 0 < length left
 
-pub passes_none : (high low now : ℕ) (times : List ℕ) → RiseTo now times → (time : ℕ) × Contains times time × (now - time ≤ high) → Passes high low now times times
-passes_none high low now [] rise live = absurd (none_in_nil live.0 live.1)
-passes_none high low now (t ∷ times) rise live = record { rise = rise; forgets = forgets_none high low now (t ∷ times); some = omega arith }
+pub passes_none : (high low now : ℕ) (times : List ℕ) → RiseTo now times → Passes high low now times times
+passes_none high low now times rise = record { rise = rise; forgets = forgets_none high low now times }
 
 pub passes_more : (high low now : ℕ) (before left : List ℕ) → IsFirstPassed high low now left → Passes high low now before left → Passes high low now before (drop 1 left)
 passes_more high low now before [] passed passes = absurd passed
-passes_more high low now before (a ∷ []) passed passes = absurd passed
+passes_more high low now before (t ∷ []) passed passes = record { rise = tt; forgets = forgets_last high low now before t passed passes.forgets }
 passes_more high low now before (a ∷ b ∷ times) passed passes = record {
   rise = passes.rise.2;
   forgets = forgets_first high low now before a b times (All-contains (λ l. a < l) (b ∷ times) b passes.rise.1 (here b times)) passed passes.forgets;
-  some = omega arith;
 }
 
 -- the first is not past the end, and the second not far enough
-pub passes_enough : (high low now : ℕ) (before left : List ℕ) → (time : ℕ) × Contains before time × (now - time ≤ high) → (IsFirstPassed high low now left → ⊥)
-    → Passes high low now before left → SettlesTimes high low now before left
-passes_enough high low now before [] live held passes = absurd (omega (arith, passes.some))
-passes_enough high low now before (t ∷ []) live held passes = record {
+pub passes_enough : (high low now : ℕ) (before left : List ℕ) → (IsFirstPassed high low now left → ⊥) → Passes high low now before left → SettlesTimes high low now before left
+passes_enough high low now before [] held passes = record { forgets = passes.forgets; rise = tt; least = inl refl }
+passes_enough high low now before (t ∷ []) held passes = record {
   forgets = passes.forgets;
   rise = passes.rise;
-  least = (
-    ⊎_elim
-        (λ by. let same : t ≡ by.0 = ⊎_elim (λ e. e) (λ none. absurd (none_in_nil by.0 none)) (first_or_later by.0 t [] by.3) in omega (arith, same, by.1, live.2))
-        (λ ended. absurd (omega (arith, ended, live.2))) (passes.forgets.serves live.0 live.1),
-    All-nil _,
-  );
+  least = inr (⊎_elim (λ past. absurd (held past)) (λ alive. alive) (cases_lt high (now - t)), All-nil _);
 }
-passes_enough high low now before (a ∷ b ∷ times) live held passes =
+passes_enough high low now before (a ∷ b ∷ times) held passes =
     let near : now - b < low = ⊎_elim (λ less. less) (λ far. absurd (held (inr far))) (cases_lt (now - b) low) in record {
       forgets = passes.forgets;
       rise = passes.rise;
-      least = (
+      least = inr (
         ⊎_elim (λ past. absurd (held (inl past))) (λ alive. alive) (cases_lt high (now - a)),
         all_from (λ l. now - l < low) (b ∷ times) (λ time there. ⊎_elim (λ same. omega (arith, same, near)) (λ behind.
             let above : b < time = All-contains (λ l. b < l) times time passes.rise.2.1 behind in omega (arith, above, near)) (first_or_later time b times there)),
       );
     }
 
--- one time is settled
-pub alone_settled : (high low now t : ℕ) → RiseTo now (t ∷ []) → (time : ℕ) × Contains (t ∷ []) time × (now - time ≤ high) → SettlesTimes high low now (t ∷ []) (t ∷ [])
-alone_settled high low now t rise live = passes_enough high low now (t ∷ []) (t ∷ []) live (λ no. no) (passes_none high low now (t ∷ []) rise live)
+-- what is tested of the first
+pub first_passed : (high low now : ℕ) (times : List ℕ) → 0 < length times → length times < 2 → ((d : ℕ) → high < now - get_or times 0 d) → IsFirstPassed high low now times
+first_passed high low now [] some one past = absurd (omega (arith, some))
+first_passed high low now (t ∷ []) some one past = past 0
+first_passed high low now (a ∷ b ∷ times) some one past = absurd (omega (arith, one))
+
+pub first_held : (high low now : ℕ) (times : List ℕ) → length times < 2 → (0 < length times → (d : ℕ) → now - get_or times 0 d ≤ high) → IsFirstPassed high low now times → ⊥
+first_held high low now [] one live passed = passed
+first_held high low now (t ∷ []) one live passed = let near = live (omega arith) 0 in omega (arith, near, passed)
+first_held high low now (a ∷ b ∷ times) one live passed = omega (arith, one)
+
+-- what is not several is settled by one look
+pub ended_settles : (high low now : ℕ) (times : List ℕ) → ((time : ℕ) → Contains times time → high < now - time) → SettlesTimes high low now times []
+ended_settles high low now times ended = record {
+  forgets = record {
+    from = λ time there. absurd (none_in_nil time there);
+    behind = λ time there. absurd (none_in_nil time there);
+    serves = λ time there. inr (ended time there);
+  };
+  rise = tt;
+  least = inl refl;
+}
+
+pub few_settled : (high low now : ℕ) (times : List ℕ) → length times < 2 → RiseTo now times → (time : ℕ) × Contains times time × (now - time ≤ high) → SettlesTimes high low now times times
+few_settled high low now [] few rise live = absurd (none_in_nil live.0 live.1)
+few_settled high low now (t ∷ []) few rise live = passes_enough high low now (t ∷ []) (t ∷ []) (λ past.
+    let same : t ≡ live.0 = ⊎_elim (λ e. e) (λ none. absurd (none_in_nil live.0 none)) (first_or_later live.0 t [] live.1) in omega (arith, same, past, live.2))
+    (passes_none high low now (t ∷ []) rise)
+few_settled high low now (a ∷ b ∷ times) few rise live = absurd (omega (arith, few))
+
+-- where one was there at this time, one is left
+pub settled_least : (high low now : ℕ) (before after : List ℕ) → Contains before now → SettlesTimes high low now before after → AreLeastTimes (Some high) low now after
+settled_least high low now before after there settles = ⊎_elim
+    (λ none. absurd (⊎_elim (λ by. none_in_nil by.0 (subst (λ l. Contains l by.0) none by.3)) (λ ended. omega (arith, ended)) (settles.forgets.serves now there)))
+    (λ least. least) settles.least
 
 pub before_now : (now first : ℕ) → RiseTo now (first ∷ []) → (Contains (first ∷ []) now → ⊥) → first < now
 before_now now first rise later_one = ⊎_elim (λ same. absurd (later_one (0, omega arith, same))) (λ less. less) (equal_or_below first now rise.0)
@@ -149,19 +182,27 @@ pub one_passed : (high low now first : ℕ) → first < now → (high < now - fi
 one_passed high low now first below passed = record {
   forgets = forgets_first high low now (first ∷ now ∷ []) first now [] below passed (forgets_none high low now (first ∷ now ∷ []));
   rise = (omega arith, All-nil _, tt);
-  least = (omega arith, All-nil _);
+  least = inr (omega arith, All-nil _);
 }
 
 pub two_held : (high low now first : ℕ) → first < now → (now - first ≤ high) × (now - now < low) → SettlesTimes high low now (first ∷ now ∷ []) (first ∷ now ∷ [])
 two_held high low now first below held = record {
   forgets = forgets_none high low now (first ∷ now ∷ []);
   rise = two_rise now first below;
-  least = (
+  least = inr (
     held.0,
     all_from (λ l. now - l < low) (now ∷ []) (λ time there.
         ⊎_elim (λ same. omega (arith, same, held.1)) (λ none. absurd (none_in_nil time none)) (first_or_later time now [] there)),
   );
 }
+
+-- the first time of a row
+pub first_settles : (high low now : ℕ) → SettlesTimes high low now (now ∷ []) (now ∷ [])
+first_settles high low now = record { forgets = forgets_none high low now (now ∷ []); rise = (omega arith, All-nil _, tt); least = inr (omega arith, All-nil _) }
+
+pub first_least : (high : Option ℕ) (low now : ℕ) → AreLeastTimes high low now (now ∷ [])
+first_least None low now = refl
+first_least (Some high) low now = (omega arith, All-nil _)
 
 -- ---- a time is added
 
@@ -257,16 +298,6 @@ module _ (interval : Interval) (now : ℕ) (times : List ℕ) (rises : IsRisingB
       nearer None a b below up = tt
       nearer (Some high) a b below up = omega (arith, below, up)
 
-pub only_in : (interval : Interval) (now t : ℕ) → IsIn interval (now - t) ↔ IsSomeIn interval now (t ∷ [])
-only_in interval now t = (
-  λ is. (t, here t [], is),
-  λ some. subst (λ x. IsIn interval (now - x)) (⊎_elim (λ same. sym same) (λ none. absurd (none_in_nil some.0 none)) (first_or_later some.0 t [] some.1)) some.2,
-)
-
-pub only_place : (t place d : ℕ) → place < 1 → t ≡ get_or (t ∷ []) place d
-only_place t zero d within = refl
-only_place t (suc place) d within = absurd (omega (arith, within))
-
 -- ---- the latest time
 
 pub rise_latest : (last : ℕ) (times : List ℕ) (d : ℕ) → RiseTo last times → (time : ℕ) → Contains times time → time ≤ get_or times (length times - 1) d
@@ -308,3 +339,28 @@ adds_none now before after same = record {
   from = λ time there. inl (subst (λ l. Contains l time) same there);
   behind = λ time there. inl (subst (λ (l : List ℕ). Contains (drop 1 l) time) same there);
 }
+
+pub alone_at_most : (now : ℕ) (before : List ℕ) → before ≡ [] → AddsAtMost now before (now ∷ [])
+alone_at_most now before none = record {
+  from = λ time there. inr (⊎_elim (λ same. sym same) (λ no. absurd (none_in_nil time no)) (first_or_later time now [] there));
+  behind = λ time there. absurd (none_in_nil time there);
+}
+
+pub alone_added : (interval : Interval) (now : ℕ) (before : List ℕ) → before ≡ [] → AddsTime interval now before (now ∷ [])
+alone_added interval now before none = record {
+  serves = λ time there. absurd (none_in_nil time (subst (λ l. Contains l time) none there));
+  added = itself interval.high interval.low now (Contains (now ∷ [])) now (here now []);
+}
+
+pub first_at : (times : List ℕ) (x d : ℕ) → 0 < length times → x ≡ get_or times 0 x → get_or times 0 d ≡ x
+first_at [] x d some is = absurd (omega (arith, some))
+first_at (t ∷ times) x d some is = sym is
+
+pub none_at : (times : List ℕ) → is_some_time times ≡ false → times ≡ []
+none_at [] none = refl
+none_at (t ∷ times) none = absurd (false≢true (sym none))
+
+pub passed_shorter : (high low now : ℕ) (left after : List ℕ) → after ≡ drop 1 left → IsFirstPassed high low now left → length after < length left
+passed_shorter high low now [] after is passed = absurd passed
+passed_shorter high low now (t ∷ []) after is passed = omega (arith, ap length is)
+passed_shorter high low now (a ∷ b ∷ times) after is passed = omega (arith, ap length is)

@@ -5,13 +5,18 @@ use Rattle.windows.proofs.Vocabulary.{Contains-from_map, Contains-map, table_row
 use Rattle.windows.proofs.Vocabulary.{to_the_end, with_committed_step, CommittedStep, HasPair, IsKeptTime, ChosenBy, RememberedIsKept, CommittedStands, AnsweredIsWalked, AddAtMost, AddsTimes}
 use Rattle.windows.proofs.Vocabulary.{AreWindowEntries, AreLeast, Forgets, GivesRow, GivesSomeRow, HasTime, IsAnyRow, IsSomeIn, KeepsRows, RowSurvives, IsEndedTime, AreLeastTimes, IsServedTime}
 use Rattle.windows.proofs.Vocabulary.{RiseTo, Queue, Window, AnswersBy, AreTables, FitsColumns, HasRowAfterStep, StandsWithStep, HasLeast, HasRow, IsCommittedBy, IsWindow, IsWalkedLater, IsWalkedNow}
-use Rattle.windows.proofs.Vocabulary.{WindowKeeps, KeepsLeast, WindowRemembers, WindowRemembersIn, StandsForSteps, SurvivesFor, TellsFor, AnswersNow, kept_entries, Surviving, Only, AllBut}
+use Rattle.windows.proofs.Vocabulary.{WindowKeeps, KeepsLeast, WindowRemembers, WindowRemembersIn, StandsForSteps, SurvivesFor, TellsFor, AnswersNow, kept_entries, Surviving, Only, AllBut, ◌∷◌, Bool}
+use Rattle.windows.proofs.Vocabulary.{true, false, false≢true, cond, here, Contains-filter, Contains-from_filter, IfSome}
 use Rattle.windows.specs.declared.surviving_rows.Surviving.TheVariants.{All as Whole}
 use Rattle.windows.proofs.EntryLemmas.{fit_of, least_of, served_by, served_on}
 use Rattle.windows.proofs.HeldLemmas.{held_more, none_held, nothing_at_first, one_step_more}
 use Rattle.windows.proofs.LeastLemmas.{least_is_chosen}
 use Rattle.windows.proofs.KeptTimeLemmas.{chosen_of_all, ended_later, kept_if_chosen, served_later}
-use Rattle.windows.proofs.TimeLemmas.{first_of, least_live}
+use Rattle.windows.proofs.TimeLemmas.{least_live}
+use Rattle.windows.specs.machine.RowIndexes.{IsIndexOf, PartIndex}
+use Rattle.windows.specs.machine.WindowEntries.{rows_of}
+use Rattle.windows.specs.machine.RowTimes.{is_some_time}
+use Rattle.windows.specs.machine.Windows.{has_times}
 
 -- a distance that is in the interval, at an earlier time
 nearer : (high : Option ℕ) (earlier time j : ℕ) → earlier ≤ time → IsUpTo high (time - j) → IsUpTo high (earlier - j)
@@ -154,12 +159,37 @@ walked_later window t has steps stands v = then (has v) (stands.keeps window.las
 
 -- ---- rows with their times
 
-pub to_view : (es : List (List Value × List ℕ)) (row : List Value) (times : List ℕ) → Contains es (row, times) → Contains (kept_entries es) (row, times)
-to_view es row times there = there
+some_time : (times : List ℕ) (time : ℕ) → Contains times time → is_some_time times ≡ true
+some_time [] time there = absurd (none_in_nil time there)
+some_time (t ∷ times) time there = refl
+
+pub first_time : (times : List ℕ) → is_some_time times ≡ true → (time : ℕ) × Contains times time
+first_time [] some = absurd (false≢true some)
+first_time (t ∷ times) some = (t, here t times)
+
+pub to_view : (es : List (List Value × List ℕ)) (row : List Value) (times : List ℕ) (time : ℕ) → Contains es (row, times) → Contains times time → Contains (kept_entries es) (row, times)
+to_view es row times time there has = Contains-filter has_times es (row, times) there (some_time times time has)
+
+-- each row that is kept has a time
+pub kept_from : (es : List (List Value × List ℕ)) (e : List Value × List ℕ) → Contains (kept_entries es) e → Contains es e × (is_some_time e.1 ≡ true)
+kept_from es e there = Contains-from_filter has_times es e there
 
 pub from_view : (es : List (List Value × List ℕ)) (row : List Value) (times : List ℕ) → Contains (kept_entries es) (row, times) → (kept : List ℕ)
     × Contains es (row, kept) × (kept ≡ times)
-from_view es row times there = (times, there, refl)
+from_view es row times there = (times, (kept_from es (row, times) there).0, refl)
+
+-- no row stands twice among those
+pub kept_once : (es : List (List Value × List ℕ)) → HasNoRepeats (map (λ e. e.0) es) → HasNoRepeats (map (λ e. e.0) (kept_entries es))
+kept_once [] unique = tt
+kept_once (e ∷ es) unique = by (has_times e) (kept_once es unique.1)
+  where
+    by : (b : Bool) → HasNoRepeats (map (λ x. x.0) (kept_entries es)) → HasNoRepeats (map (λ x. x.0) (cond b (e ∷ kept_entries es) (kept_entries es)))
+    by true rest = (
+      λ there. let from = Contains-from_map (λ (x : List Value × List ℕ). x.0) (kept_entries es) e.0 there in
+          unique.0 (subst (Contains (map (λ x. x.0) es)) from.2 (Contains-map (λ (x : List Value × List ℕ). x.0) es from.0 (kept_from es from.0 from.1).0)),
+      rest,
+    )
+    by false rest = rest
 
 module _ (columns : List VarId) (distinct : HasNoRepeats columns) where
   -- rows of these columns that have a valuation's values
@@ -211,8 +241,15 @@ remembers_from before after time S right from serves J serves_in alive later pas
     found : (j : ℕ) → HasRowAfterStep before time S right v j → IsIn J (later - j) → WindowRemembersIn J after later v
     found j goes within = ⊎_elim (λ by. let o = serves_in later j (HasRow after v) past by within in (o.0, o.2, o.1)) (λ ended. absurd (alive later j past within ended)) (serves v j goes)
 
-pub same_rows : (es : List (List Value × List ℕ)) → map (λ e. e.0) (kept_entries es) ≡ map (λ e. e.0) es
-same_rows es = refl
+pub keeps_kept : (es after : List (List Value × List ℕ)) → after ≡ kept_entries es → KeepsRows (λ row. Unit {0}) es after
+keeps_kept es after is = subst (KeepsRows (λ row. Unit {0}) es) (sym is) (record {
+  among = λ e there. inl (kept_from es e there).0;
+  exact = λ row time. (
+    λ has. ((has.0, (kept_from es (row, has.0) has.1).0, has.2), tt),
+    λ both. (both.0.0, to_view es row both.0.0 time both.0.1 both.0.2, both.0.2),
+  );
+  unique = kept_once es;
+})
 
 -- a window of these entries has the least times of its rows
 pub keeps_least : (interval : Interval) (columns : List VarId) (last : ℕ) (es : List (List Value × List ℕ)) → HasNoRepeats columns → AreWindowEntries (length columns) last es
@@ -224,14 +261,28 @@ keeps_least interval columns last es distinct kept least = record {
       let entry = from_view es e.0 e.1 there in let fit = fit_of (length columns) last es e.0 entry.0 kept entry.1 in record {
         long = fit.0;
         rise = subst (RiseTo last) entry.2 fit.1;
-        least = subst (AreLeastTimes interval.high interval.low last) entry.2 (least_of interval last es e.0 entry.0 least entry.1);
+        least = ⊎_elim (λ none. absurd (false≢true (sym (ap is_some_time none) ∙ (kept_from es e there).1))) (λ is. is) (least_of interval last es e.0 e.1 least (kept_from es e there).0);
       });
-  unique = subst HasNoRepeats (sym (same_rows es)) kept.unique;
+  unique = kept_once es kept.unique;
 }
 
-pub window_least : (interval : Interval) (columns : List VarId) (last : ℕ) (es : List (List Value × List ℕ)) (queue : Queue) → IsWindow interval columns last es queue
+pub window_least : (interval : Interval) (columns : List VarId) (last : ℕ) (es : List (List Value × List ℕ)) (queue : Queue) (index : Option PartIndex)
+    → IsWindow interval columns last es queue index
     → KeepsLeast (record { interval = interval; columns = columns; last = last; kept = kept_entries es })
-window_least interval columns last es queue is = keeps_least interval columns last es is.distinct is.kept is.least
+window_least interval columns last es queue index is = keeps_least interval columns last es is.distinct is.kept is.least
+
+-- with another index of the same rows
+pub window_by : (interval : Interval) (columns : List VarId) (last : ℕ) (es : List (List Value × List ℕ)) (queue : Queue) (index other : Option PartIndex)
+    → IfSome other (IsIndexOf columns (rows_of es)) → IsWindow interval columns last es queue index → IsWindow interval columns last es queue other
+window_by interval columns last es queue index other indexed is = record {
+  distinct = is.distinct;
+  kept = is.kept;
+  least = is.least;
+  up_to = is.up_to;
+  in_reach = is.in_reach;
+  queued = is.queued;
+  indexed = indexed;
+}
 
 module _ (interval : Interval) (columns : List VarId) (last time : ℕ) (es left middle after : List (List Value × List ℕ)) (s : Surviving) (right : Relation) (distinct : HasNoRepeats columns)
     (kept : AreWindowEntries (length columns) last es) (same : FitsColumns columns s) (tables : IsAnyRow left → AreTables s) (right_columns : right.columns ≡ columns)
@@ -243,7 +294,7 @@ module _ (interval : Interval) (columns : List VarId) (last time : ℕ) (es left
 
   has_now : (row : List Value) (t : ℕ) (v : Valuation) → HasTime after row t → AgreesWithRow v columns row
       → HasRow (record { interval = interval; columns = columns; last = time; kept = kept_entries after }) v t
-  has_now row t v has agrees = (row, has.0, to_view after row has.0 has.1, has.2, agrees)
+  has_now row t v has agrees = (row, has.0, to_view after row has.0 t has.1 has.2, has.2, agrees)
 
   from_now : (v : Valuation) (t : ℕ) → HasRow (record { interval = interval; columns = columns; last = time; kept = kept_entries after }) v t
       → HasRowAfterStep (record { interval = interval; columns = columns; last = last; kept = kept_entries es }) time (SurvivesFor s) right v t
@@ -251,7 +302,7 @@ module _ (interval : Interval) (columns : List VarId) (last time : ℕ) (es left
       let entry = from_view after h.0 h.1 h.2 in
       ⊎_elim
       (λ mid. let both = (keeps.exact h.0 t).0 mid in let was = forgets.from h.0 t both.0 in
-      inl ((h.0, was.0, to_view es h.0 was.0 was.1, was.2, h.4), (survives_for columns distinct s v h.0 same (tables ((h.0, both.0.0), both.0.1)) (long h.0 t was) h.4).0 both.1))
+      inl ((h.0, was.0, to_view es h.0 was.0 t was.1 was.2, was.2, h.4), (survives_for columns distinct s v h.0 same (tables ((h.0, both.0.0), both.0.1)) (long h.0 t was) h.4).0 both.1))
       (λ added. inr (added.0, (h.0, added.1, subst (λ l. AgreesWithRow v l h.0) (sym right_columns) h.4)))
       (most.from h.0 t (entry.0, entry.1, subst (λ l. Contains l t) (sym entry.2) h.3))
 
@@ -322,7 +373,7 @@ module _ (interval J : Interval) (columns : List VarId) (last time : ℕ) (es : 
   given_rows v = (
     λ h. let g = h.1.0 in
         let fits_in = (fit_of (length columns) last es h.0 g.0 kept g.1).0 in
-        ((g.2.0, g.2.2, (h.0, g.0, to_view es h.0 g.0 g.1, g.2.1, h.2)), (survives_for columns distinct s v h.0 same (tables (h.0, (g, tt))) fits_in h.2).0 h.1.1),
+        ((g.2.0, g.2.2, (h.0, g.0, to_view es h.0 g.0 g.2.0 g.1 g.2.1, g.2.1, h.2)), (survives_for columns distinct s v h.0 same (tables (h.0, (g, tt))) fits_in h.2).0 h.1.1),
     λ both. let h = both.0 in let entry = from_view es h.2.0 h.2.1 h.2.2 in
         let fits_in = (fit_of (length columns) last es h.2.0 entry.0 kept entry.1).0 in
         let some : IsSomeIn J time entry.0 = (h.0, subst (λ l. Contains l h.0) (sym entry.2) h.2.3, h.1) in
@@ -347,23 +398,25 @@ table_gives t columns out same rows v = (
 module _ (window : Window) (interval : Interval) (columns : List VarId) (last time : ℕ) (es : List (List Value × List ℕ)) (distinct : HasNoRepeats columns)
     (kept : AreWindowEntries (length columns) last es)
     (is : record { interval = interval; columns = columns; last = last; kept = kept_entries es } ≡ window) where
-  pub key_fits : (row : List Value) → Contains (map (λ e. e.0) es) row → length row ≡ length columns
-  key_fits row there = let e = Contains-from_map (λ (x : List Value × List ℕ). x.0) es row there in ap length (sym e.2) ∙ (fit_of (length columns) last es e.0.0 e.0.1 kept e.1).0
+  pub key_fits : (row : List Value) → Contains (map (λ e. e.0) (kept_entries es)) row → length row ≡ length columns
+  key_fits row there =
+      let e = Contains-from_map (λ (x : List Value × List ℕ). x.0) (kept_entries es) row there in
+      ap length (sym e.2) ∙ (fit_of (length columns) last es e.0.0 e.0.1 kept (kept_from es e.0 e.1).0).0
 
   -- a table of all rows has those that have some time, and so what is kept
-  pub had_rows : (items out : List (List Value)) (t : Relation) → items ≡ [] → ((row : List Value) → Contains out row ↔ (Contains items row ⊎ Contains (map (λ e. e.0) es) row)) → t.columns ≡ columns
+  pub had_rows : (items out : List (List Value)) (t : Relation) → items ≡ [] → ((row : List Value) → Contains out row ↔ (Contains items row ⊎ Contains (map (λ e. e.0) (kept_entries es)) row)) → t.columns ≡ columns
       → ((row : List Value) → Contains t.rows row ↔ Contains out row) → (v : Valuation) → HasValuation t v ↔ ((time : ℕ) × HasRow window v time)
   had_rows items out t empty outs same rows v = subst (λ w. HasValuation t v ↔ ((time : ℕ) × HasRow w v time)) is
       (then (table_gives t columns out same rows v) (
-        λ h. let e = Contains-from_map (λ (x : List Value × List ℕ). x.0) es h.0 (⊎_elim (λ none. absurd (none_in_nil h.0 (subst (λ l. Contains l h.0) empty none)))
+        λ h. let e = Contains-from_map (λ (x : List Value × List ℕ). x.0) (kept_entries es) h.0 (⊎_elim (λ none. absurd (none_in_nil h.0 (subst (λ l. Contains l h.0) empty none)))
             (λ key. key) ((outs h.0).0 h.1)) in
-            let first = first_of e.0.1 (fit_of (length columns) last es e.0.0 e.0.1 kept e.1).2 in
-            (first.0, (e.0.0, e.0.1, to_view es e.0.0 e.0.1 e.1, first.1, subst (AgreesWithRow v columns) (sym e.2) h.2)),
-        λ had. let h = had.1 in let entry = from_view es h.0 h.1 h.2 in (h.0, (outs h.0).1 (inr (Contains-map (λ (x : List Value × List ℕ). x.0) es (h.0, entry.0) entry.1)), h.4),
+            let first = first_time e.0.1 (kept_from es e.0 e.1).1 in
+            (first.0, (e.0.0, e.0.1, e.1, first.1, subst (AgreesWithRow v columns) (sym e.2) h.2)),
+        λ had. let h = had.1 in (h.0, (outs h.0).1 (inr (Contains-map (λ (x : List Value × List ℕ). x.0) (kept_entries es) (h.0, h.1) h.2)), h.4),
       ))
 
   pub kept_rows : (items out : List (List Value)) (t : Relation) → AreLeast interval last es → items ≡ []
-      → ((row : List Value) → Contains out row ↔ (Contains items row ⊎ Contains (map (λ e. e.0) es) row)) → t.columns ≡ columns
+      → ((row : List Value) → Contains out row ↔ (Contains items row ⊎ Contains (map (λ e. e.0) (kept_entries es)) row)) → t.columns ≡ columns
       → ((row : List Value) → Contains t.rows row ↔ Contains out row) → (v : Valuation) → HasValuation t v ↔ WindowKeeps window window.last v
   kept_rows items out t least empty outs same rows v =
       let had = kept_is_had window (subst KeepsLeast is (keeps_least interval columns last es distinct kept least)) v in

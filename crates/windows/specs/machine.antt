@@ -2,6 +2,7 @@ pub mod RowTimes
 pub mod StoredTimes
 pub mod WindowEntries
 pub mod RowQueries
+pub mod RowIndexes
 pub mod Slots
 pub mod CommittedSteps
 pub mod StepQueues

@@ -1,14 +1,17 @@
 //! The rows that a window gives, of those that agree with a valuation where it binds: no other row is copied.
-ghost use Rattle.std.specs.Prelude.{◌≡◌, ◌↔◌, ◌⊎◌, List, IsTrue, OnOk, Contains};
+ghost use Rattle.std.specs.Prelude.{◌≡◌, ◌↔◌, ◌⊎◌, ℕ, List, All, Some, IfSome, IsTrue, OnOk, Contains};
+ghost use Rattle.std.specs.Prelude.{length, slice_get};
 ghost use Rattle.std.specs.Option.{option_copied};
 ghost use Rattle.enf_data.specs.meaning.Membership.{IsIn};
 ghost use Rattle.enf_data.specs.declared.values.Value.{Value as AnyValue};
 ghost use Rattle.valuations.specs.machine.Tables.{IsTable};
-ghost use Rattle.windows.specs.machine.WindowEntries.{GivesRow, GivesSomeRow, IsSomeIn};
+ghost use Rattle.windows.specs.machine.RowIndexes.{IsIndexOf};
+ghost use Rattle.windows.specs.machine.WindowEntries.{GivesRow, GivesRowAt, GivesSomeRow, IsSomeIn, rows_of};
 ghost use Rattle.windows.specs.machine.RowQueries.{are_cells_as_bound, cells, is_cell_as_bound, SurvivesUnder};
 ghost use Rattle.windows.specs.machine.Windows.{AreTables};
 
 use crate::entries::{Entries, is_given};
+use crate::row_index::RowIndex;
 use crate::row_query::RowQuery;
 use crate::surviving_rows::Surviving;
 use crate::times::Times;
@@ -61,7 +64,7 @@ fn is_given_under<V: Lookup>(
 }
 
 // Puts those rows last that survive, agree, and have a time at a distance in the interval.
-pub fn push_given_under<V: Lookup>(
+fn push_given_under<V: Lookup>(
     alloc: Global,
     entries: &Entries,
     query: RowQuery<'_, V>,
@@ -82,6 +85,86 @@ pub fn push_given_under<V: Lookup>(
         }
     }
     Ok(())
+}
+
+// Puts the row at the place last, where it survives, agrees, and has such a time.
+fn push_at<V: Lookup>(
+    entries: &Entries,
+    place: usize,
+    query: RowQuery<'_, V>,
+    surviving: &Surviving<'_>,
+    interval: Interval,
+    now: u64,
+    out: &mut Vec<Row>,
+) -> Result<(), NoMemory>
+    ensures { OnOk result ((row : List AnyValue) → Contains out.new.items row ↔ (Contains out.old.items row
+        ⊎ GivesRowAt interval now
+        (SurvivesUnder surviving.now (cells query.entry.columns.now (V.valuation query.entry.values.now)))
+        entries.now.entries place row)) }
+{
+    let Some((row, times)) = entries.get_index(place) else {
+        return Ok(());
+    };
+    if !is_given_under(row, times, query, surviving, interval, now) {
+        return Ok(());
+    }
+    let alloc = *out.allocator();
+    out.push(row.duplicate(alloc)?)?;
+    Ok(())
+}
+
+// So with the rows at these places, which are those of all that agree.
+fn push_found<V: Lookup>(
+    entries: &Entries,
+    places: &[usize],
+    query: RowQuery<'_, V>,
+    surviving: &Surviving<'_>,
+    interval: Interval,
+    now: u64,
+    out: &mut Vec<Row>,
+) -> Result<(), NoMemory>
+    requires { (place : ℕ) (row : List AnyValue) (times : List ℕ)
+        → slice_get entries.now.entries place ≡ Some (row, times)
+        → IsTrue (are_cells_as_bound (cells query.columns.now (V.valuation query.values.now)) row)
+        → Contains places.now place }
+    ensures { OnOk result ((row : List AnyValue) → Contains out.new.items row ↔ (Contains out.old.items row
+        ⊎ GivesRow interval now
+        (SurvivesUnder surviving.now (cells query.entry.columns.now (V.valuation query.entry.values.now)))
+        entries.now.entries row)) }
+{
+    for place in places {
+        push_at(entries, *place, query, surviving, interval, now, out)?;
+    }
+    Ok(())
+}
+
+// So too, by the index where the valuation binds its columns.
+pub fn push_given_by<V: Lookup>(
+    entries: &Entries,
+    index: &Option<RowIndex>,
+    query: RowQuery<'_, V>,
+    surviving: &Surviving<'_>,
+    interval: Interval,
+    now: u64,
+    out: &mut Vec<Row>,
+) -> Result<(), NoMemory>
+    requires indexed { IfSome index.now (IsIndexOf query.columns.now (rows_of entries.now.entries)) }
+    requires fit { All (λ e. length e.0 ≡ length query.columns.now) entries.now.entries }
+    ensures rows { OnOk result ((row : List AnyValue) → Contains out.new.items row ↔ (Contains out.old.items row
+        ⊎ GivesRow interval now
+        (SurvivesUnder surviving.now (cells query.entry.columns.now (V.valuation query.entry.values.now)))
+        entries.now.entries row)) }
+    ensures tables { AreTables surviving.now }
+{
+    surviving.tables();
+    if let Some(index) = index {
+        if index.is_bound_by(query.values) {
+            let places = index.places(query.values);
+            return push_found(entries, places, query, surviving, interval, now, out);
+        }
+    }
+    let alloc = *out.allocator();
+    push_given_under(alloc, entries, query, surviving, interval, now, out)
 }
 
 // Puts those rows of the table last that agree.

@@ -1,10 +1,10 @@
 //! Windows and slots copied into new memory.
 ghost use Rattle.std.specs.Prelude.{◌≡◌, [], ◌∷◌, ◌++◌, IfOk, OnOk, Contains, map};
 ghost use Rattle.enf_data.specs.meaning.Membership.{HasNoRepeats};
-ghost use Rattle.windows.specs.machine.Windows.{kept_entries};
 
 use crate::entries::Entries;
 use crate::prev_slot::PrevSlot;
+use crate::row_index::made_anew;
 use crate::since::SinceWindow;
 use crate::steps::LastStep;
 use crate::times::Times;
@@ -16,12 +16,16 @@ use std::alloc::Global;
 
 impl Duplicate for SinceWindow {
     fn duplicate(&self, alloc: Global) -> Result<SinceWindow, NoMemory> {
+        let among = self.columns.as_slice();
+        let index = made_anew(alloc, &self.index, among, &self.entries)?;
         Ok(SinceWindow {
             interval: self.interval,
             columns: self.columns.duplicate(alloc)?,
             last: self.last,
             entries: copy_entries(alloc, &self.entries)?,
             queue: self.queue.duplicate(alloc)?,
+            index,
+            looked_up: self.looked_up,
         })
     }
 }
@@ -52,7 +56,7 @@ impl Duplicate for LastStep {
 // A copy of the entries: their rows with their times, in their order.
 fn copy_entries(alloc: Global, entries: &Entries) -> Result<Entries, NoMemory>
     requires { HasNoRepeats (map (λ e. e.0) entries.now.entries) }
-    ensures { IfOk result (λ copy. kept_entries copy.entries ≡ kept_entries entries.now.entries) }
+    ensures { IfOk result (λ copy. copy.entries ≡ entries.now.entries) }
 {
     let mut copy = IndexMap::with_capacity(alloc, entries.len())?;
     for (row, times) in entries.iter() {
@@ -64,8 +68,7 @@ fn copy_entries(alloc: Global, entries: &Entries) -> Result<Entries, NoMemory>
 // Puts the row last, with the same times. It is not there yet.
 fn copy_entry(alloc: Global, row: &Row, times: &Times, copy: &mut Entries) -> Result<(), NoMemory>
     requires { Contains (map (λ e. e.0) copy.old.entries) row.now → ⊥ }
-    ensures { OnOk result (kept_entries copy.new.entries
-        ≡ kept_entries copy.old.entries ++ (row.now, times.now) ∷ []) }
+    ensures { OnOk result (copy.new.entries ≡ copy.old.entries ++ (row.now, times.now) ∷ []) }
 {
     let times = times.duplicate(alloc)?;
     copy.insert(row.duplicate(alloc)?, times)?;

@@ -37,8 +37,13 @@ pub fn push_step(
     Ok(())
 }
 
-// Forgets what the window need not keep at this time.
-pub fn forget_steps(entries: &mut Entries, queue: &mut StepQueue, interval: Interval, now: u64)
+// Forgets what the window need not keep at this time. Answers how many rows were looked up.
+pub fn forget_steps(
+    entries: &mut Entries,
+    queue: &mut StepQueue,
+    interval: Interval,
+    now: u64,
+) -> usize
     requires kept { (long : ℕ) × AreWindowEntries long now entries.old.entries }
     requires least { (last : ℕ) × (last ≤ now) × AreLeast interval last entries.old.entries }
     requires queued { (high : ℕ) → interval.high ≡ Some high → AreQueued entries.old.entries queue.old }
@@ -54,10 +59,15 @@ pub fn forget_steps(entries: &mut Entries, queue: &mut StepQueue, interval: Inte
         → IsInStep (waiting_of queue.new) row now }
 {
     if let Some(high) = interval.high {
-        forget_ended(entries, queue, interval, high, now);
+        let ended = forget_ended(entries, queue, interval, high, now);
         if 0 < interval.low {
-            forget_far(entries, queue, interval, high, now);
+            let far = forget_far(entries, queue, interval, high, now);
+            ended.saturating_add(far)
+        } else {
+            ended
         }
+    } else {
+        0
     }
 }
 
@@ -68,7 +78,7 @@ fn forget_ended(
     interval: Interval,
     high: u64,
     now: u64,
-)
+) -> usize
     requires high { interval.high ≡ Some high }
     requires kept { (long : ℕ) × AreWindowEntries long now entries.old.entries }
     ensures kept { (long : ℕ) → AreWindowEntries long now entries.old.entries
@@ -79,13 +89,22 @@ fn forget_ended(
     ensures lets_go { LetsGo (IsEndedTime (Some high) now) (IsEndedTime (Some high) now) queue.old queue.new }
     ensures live { All (λ step. now - step.time ≤ high) queue.new.steps }
 {
+    let mut looked_up: usize = 0;
     while let Some(step) = queue.take_ended(high, now) {
         settle_rows(entries, &step.rows, interval, high, now);
+        looked_up = looked_up.saturating_add(step.rows.rows().len());
     }
+    looked_up
 }
 
 // Passes the steps that are far enough: of the times of a row up to such a step the latest is enough.
-fn forget_far(entries: &mut Entries, queue: &mut StepQueue, interval: Interval, high: u64, now: u64)
+fn forget_far(
+    entries: &mut Entries,
+    queue: &mut StepQueue,
+    interval: Interval,
+    high: u64,
+    now: u64,
+) -> usize
     requires high { interval.high ≡ Some high }
     requires kept { (long : ℕ) × AreWindowEntries long now entries.old.entries }
     ensures kept { (long : ℕ) → AreWindowEntries long now entries.old.entries
@@ -95,8 +114,11 @@ fn forget_far(entries: &mut Entries, queue: &mut StepQueue, interval: Interval, 
         → interval.low ≤ now - time → IsSettledRow high interval.low now entries.new.entries row }
     ensures lets_go { LetsGo (λ _. ⊥) (λ time. interval.low ≤ now - time) queue.old queue.new }
 {
+    let mut looked_up: usize = 0;
     while let Some(step) = queue.first_far(interval.low, now) {
         settle_rows(entries, &step.rows, interval, high, now);
+        looked_up = looked_up.saturating_add(step.rows.rows().len());
         queue.pass();
     }
+    looked_up
 }

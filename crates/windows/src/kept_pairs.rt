@@ -80,6 +80,8 @@ impl SinceWindow {
             last,
             entries,
             queue,
+            index: None,
+            looked_up: 0,
         })
     }
 }

@@ -11,6 +11,7 @@ pub mod laws;
 pub mod prev_slot;
 mod queue;
 mod row_answers;
+mod row_index;
 mod row_query;
 pub mod since;
 pub mod steps;

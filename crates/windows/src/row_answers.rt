@@ -1,20 +1,19 @@
 //! What a window answers to one question: each is a look-up, and no table is made where it asks for one row.
-ghost use Rattle.std.specs.Prelude.{◌≡◌, ◌↔◌, ◌≤◌, IsTrue, IfOk, IfSome, map, length, Some};
+ghost use Rattle.std.specs.Prelude.{◌≡◌, ◌↔◌, ◌≤◌, IsTrue, IfOk, length};
 ghost use Rattle.enf_data.specs.meaning.Membership.{HasNoRepeats};
 ghost use Rattle.enf_data.specs.meaning.Valuations.{Valuation as Bound};
 ghost use Rattle.valuations.specs.machine.Tables.{AgreesWithRow, AgreesWhereBound, HasValuation, IsTable};
-ghost use Rattle.windows.specs.machine.RowQueries.{cells};
 ghost use Rattle.windows.specs.machine.Windows.{SurvivesFor};
 
-use crate::bound_answers::{push_given_under, push_now_under};
+use crate::bound_answers::{push_given_by, push_now_under};
 use crate::prev_slot::PrevSlot;
-use crate::row_query::RowQuery;
+use crate::row_query::{RowQuery, row_of};
 use crate::since::SinceWindow;
 use crate::surviving_rows::Surviving;
 use enf_data::items::Duplicate;
 use enf_data::memory::NoMemory;
 use enf_data::rows::Row;
-use enf_data::terms::{VarId, Vars};
+use enf_data::terms::Vars;
 use std::alloc::Global;
 use valuations::{Lookup, Table};
 
@@ -65,7 +64,8 @@ impl SinceWindow {
         }
     }
 
-    // The rows that hold at a step and agree with the valuation, by a look at each: only those that agree are copied.
+    // The rows that hold at a step and agree with the valuation, by the index where the valuation binds its columns,
+    // and else by a look at each: only those that agree are copied.
     fn agreeing<V: Lookup>(
         &self,
         alloc: Global,
@@ -87,9 +87,9 @@ impl SinceWindow {
             values: v,
         };
         let mut rows = Vec::new(alloc);
-        push_given_under(
-            alloc,
+        push_given_by(
             &self.entries,
+            &self.index,
             query,
             surviving,
             self.interval,
@@ -167,20 +167,6 @@ fn survives<V: Lookup>(surviving: &Surviving<'_>, v: &V) -> bool
         Surviving::Only(rows) => rows.has_valuation(v),
         Surviving::AllBut(rows) => !rows.has_valuation(v),
     }
-}
-
-// The valuation's values of the columns, where it has one of each.
-fn row_of<V: Lookup>(alloc: Global, columns: &[VarId], v: &V) -> Result<Option<Row>, NoMemory>
-    ensures { IfOk result (λ found. IfSome found (λ row. cells columns.now (V.valuation v.now) ≡ map Some row)) }
-{
-    let mut values = Vec::with_capacity(alloc, columns.len())?;
-    for column in columns {
-        match v.value(*column) {
-            Some(value) => values.push(value.duplicate(alloc)?)?,
-            None => return Ok(None),
-        }
-    }
-    Ok(Some(Row::from_vec(values)))
 }
 
 // Those of the table's rows that agree with the valuation on each column that it binds; one look-up where it binds all.

@@ -1,14 +1,17 @@
 //! The row of a valuation, as a map from rows is asked for it without making the row.
-ghost use Rattle.std.specs.Prelude.{◌≡◌, Some, map, length};
+ghost use Rattle.std.specs.Prelude.{◌≡◌, Some, map, length, IfNone, IfOk, IfSome, List};
 ghost use Rattle.std.specs.Option.{option_copied};
 ghost use Rattle.std.specs.List.{fold};
+ghost use Rattle.enf_data.specs.declared.values.Value.{Value as AnyValue};
 ghost use Rattle.windows.specs.machine.RowQueries.{cell_eq, cell_fed, cells, cells_eq};
 
+use enf_data::items::Duplicate;
+use enf_data::memory::NoMemory;
 use enf_data::rows::Row;
 use enf_data::terms::VarId;
 use enf_data::values::Value;
 use indexmap::Equivalent;
-use std::alloc::AllocError;
+use std::alloc::{AllocError, Global};
 use std::hash::{Hash, Hasher};
 use valuations::Lookup;
 
@@ -75,6 +78,22 @@ impl<V: Lookup> Equivalent<Row> for RowQuery<'_, V> {
     fn equivalent(&self, key: &Row) -> bool {
         is_row(self.columns, self.values, key.as_slice())
     }
+}
+
+// The valuation's values of the columns, where it has one of each.
+pub fn row_of<V: Lookup>(alloc: Global, columns: &[VarId], v: &V) -> Result<Option<Row>, NoMemory>
+    ensures some { IfOk result (λ found. IfSome found (λ row. cells columns.now (V.valuation v.now) ≡ map Some row)) }
+    ensures none { IfOk result (λ found. IfNone found ((row : List AnyValue)
+        → cells columns.now (V.valuation v.now) ≡ map Some row → ⊥)) }
+{
+    let mut values = Vec::with_capacity(alloc, columns.len())?;
+    for column in columns {
+        match v.value(*column) {
+            Some(value) => values.push(value.duplicate(alloc)?)?,
+            None => return Ok(None),
+        }
+    }
+    Ok(Some(Row::from_vec(values)))
 }
 
 // Whether two have the same values.

@@ -1,12 +1,16 @@
 //! Windows of the operators `since`, `once` and `historically`.
-ghost use Rattle.std.specs.Prelude.{◌≡◌, ◌↔◌, ◌≤◌, ℕ, [], IfOk, OnOk, OnErr};
+ghost use Rattle.std.specs.Prelude.{◌≡◌, ◌↔◌, ◌≤◌, ℕ, [], Contains, IfOk, OnOk, OnErr};
+ghost use Rattle.enf_data.specs.declared.terms.VarId.{VarId as AnyVariable};
 ghost use Rattle.enf_data.specs.meaning.Membership.{HasNoRepeats};
 ghost use Rattle.enf_data.specs.meaning.Valuations.{Valuation as Bound};
 ghost use Rattle.valuations.specs.machine.Tables.{IsTable, HasValuation};
 
-use crate::entries::{Entries, add_rows, keep_surviving, push_all, push_given, push_now};
+use crate::entries::{
+    Entries, add_rows, compact_if_many, keep_surviving, push_all, push_given, push_now,
+};
 use crate::expiry::{forget_steps, push_step};
 use crate::queue::StepQueue;
+use crate::row_index::RowIndex;
 use crate::surviving_rows::Surviving;
 use enf_data::intervals::Interval;
 use enf_data::items::Duplicate;
@@ -28,6 +32,10 @@ pub struct SinceWindow {
     pub(crate) entries: Entries,
     // of an interval with an end, the steps that brought these rows
     pub(crate) queue: StepQueue,
+    // where rows are looked up by a part of them, their places by it
+    pub(crate) index: Option<RowIndex>,
+    // how many rows were looked up since those without times were taken out
+    pub(crate) looked_up: usize,
 }
 
 impl Model for SinceWindow {
@@ -42,7 +50,7 @@ impl Model for SinceWindow {
       kept = kept_entries w.entries.entries;
     } };
 
-    ghost invariant = { λ w. IsWindow w.interval w.columns w.last w.entries.entries w.queue };
+    ghost invariant = { λ w. IsWindow w.interval w.columns w.last w.entries.entries w.queue w.index };
 }
 
 impl SinceWindow {
@@ -65,6 +73,8 @@ impl SinceWindow {
             last: 0,
             entries: IndexMap::new(alloc),
             queue: StepQueue::new(alloc),
+            index: None,
+            looked_up: 0,
         }
     }
 
@@ -80,6 +90,20 @@ impl SinceWindow {
         ensures { result.now ≡ self.now.columns }
     {
         &self.columns
+    }
+
+    /// Looks rows up by these columns, which are among its own, without a look at the others, where it has no such
+    /// columns yet. Nothing else changes.
+    pub fn index_by(&mut self, columns: Vars) -> Result<(), NoMemory>
+        requires { (x : AnyVariable) → Contains columns x → Contains self.old.columns x }
+        ensures { self.new ≡ self.old }
+    {
+        if self.index.is_none() {
+            let alloc = *self.entries.allocator();
+            let index = RowIndex::of(alloc, columns, self.columns.as_slice(), &self.entries)?;
+            self.index = Some(index);
+        }
+        Ok(())
     }
 
     /// The rows that a step from the last time on can answer by a step committed so far: those that are right at such
@@ -178,9 +202,20 @@ impl SinceWindow {
     {
         let alloc = *self.entries.allocator();
         push_step(alloc, &mut self.queue, self.interval, time, right)?;
-        forget_steps(&mut self.entries, &mut self.queue, self.interval, time);
-        keep_surviving(&mut self.entries, surviving);
+        let passed = forget_steps(&mut self.entries, &mut self.queue, self.interval, time);
+        let let_go = keep_surviving(&mut self.entries, surviving);
         self.last = time;
-        add_rows(alloc, &mut self.entries, right, self.interval, time)
+        let many = self.looked_up.saturating_add(passed).saturating_add(let_go);
+        let among = self.columns.as_slice();
+        let looked_up = compact_if_many(alloc, &mut self.entries, &mut self.index, among, many)?;
+        self.looked_up = looked_up;
+        add_rows(
+            alloc,
+            &mut self.entries,
+            &mut self.index,
+            right,
+            self.interval,
+            time,
+        )
     }
 }

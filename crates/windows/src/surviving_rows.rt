@@ -15,6 +15,18 @@ pub enum Surviving<'a> {
 }
 
 impl Surviving<'_> {
+    // What it is told by is a table.
+    pub(crate) fn tables(&self)
+        ensures { AreTables self.now }
+    {
+        match self {
+            Surviving::All => {}
+            Surviving::Only(rows) | Surviving::AllBut(rows) => {
+                let _rows = rows.rows();
+            }
+        }
+    }
+
     // Whether the row survives.
     pub(crate) fn has(&self, row: &Row) -> bool
         ensures has { IsTrue result ↔ RowSurvives self.now row.now }

@@ -5,6 +5,7 @@ ghost use Rattle.windows.specs.machine.StoredTimes.{stored_times};
 ghost use Rattle.windows.specs.machine.WindowEntries.{AddsAtMost, AddsTime, IsSomeIn, SettlesTimes};
 ghost use Rattle.windows.specs.meaning.KeptPairs.{IsRisingBy};
 ghost use Rattle.windows.specs.machine.RowTimes.{AreLeastTimes, IsEndedTime, IsFirstPassed, RiseTo};
+ghost use Rattle.windows.specs.machine.RowTimes.{is_some_time};
 
 use enf_data::intervals::Interval;
 use enf_data::items::Duplicate;
@@ -14,7 +15,7 @@ use std::collections::VecDeque;
 use std::marker::Model;
 
 /// The times of a row in order, seen as the list of them. One takes no memory, and there is no more than one where the
-/// interval begins at 0 or has no end.
+/// interval begins at 0 or has no end. A row that was let go has none.
 #[derive(Debug, Drop)]
 pub struct Times {
     stored: Stored,
@@ -22,6 +23,7 @@ pub struct Times {
 
 #[derive(Debug, Drop)]
 pub(crate) enum Stored {
+    Empty,
     One(u64),
     Several(Box<VecDeque<u64>>),
 }
@@ -48,11 +50,30 @@ impl Times {
         }
     }
 
+    // Whether there is a time.
+    pub fn has_time(&self) -> bool
+        ensures { result ≡ is_some_time self.now }
+    {
+        match &self.stored {
+            Stored::Empty => false,
+            Stored::One(_time) => true,
+            Stored::Several(times) => has_some(times),
+        }
+    }
+
+    // Lets all times go.
+    pub fn clear(&mut self)
+        ensures { self.new ≡ [] }
+    {
+        self.stored = Stored::Empty;
+    }
+
     // How many times there are.
     pub fn len(&self) -> usize
         ensures { result ≡ length self.now }
     {
         match &self.stored {
+            Stored::Empty => 0,
             Stored::One(_time) => 1,
             Stored::Several(times) => times.len(),
         }
@@ -64,6 +85,7 @@ impl Times {
         ensures { (d : ℕ) → result ≡ get_or self.now place d }
     {
         match &self.stored {
+            Stored::Empty => unreachable!(),
             Stored::One(time) => *time,
             Stored::Several(times) => times[place],
         }
@@ -74,6 +96,7 @@ impl Times {
         ensures { result ≡ slice_get self.now (length self.now - 1) }
     {
         match &self.stored {
+            Stored::Empty => None,
             Stored::One(time) => Some(*time),
             Stored::Several(times) => last_of(times),
         }
@@ -88,6 +111,10 @@ impl Times {
         let first = match &mut self.stored {
             Stored::Several(times) => return put_last(times, time),
             Stored::One(first) => *first,
+            Stored::Empty => {
+                self.stored = Stored::One(time);
+                return Ok(());
+            }
         };
         self.stored = Stored::Several(two_times(alloc, first, time)?);
         Ok(())
@@ -96,12 +123,16 @@ impl Times {
     // Adds the time. Of an interval without end the earliest is kept alone.
     pub fn add(&mut self, alloc: Global, interval: Interval, now: u64) -> Result<(), NoMemory>
         requires rise { RiseTo now self.old }
-        requires least { AreLeastTimes interval.high interval.low now self.old }
+        requires least { (self.old ≡ []) ⊎ AreLeastTimes interval.high interval.low now self.old }
         ensures among { AddsAtMost now self.old self.new }
         ensures added { OnOk result (AddsTime interval now self.old self.new) }
         ensures rise { RiseTo now self.new }
         ensures least { AreLeastTimes interval.high interval.low now self.new }
     {
+        if !self.has_time() {
+            self.stored = Stored::One(now);
+            return Ok(());
+        }
         let Some(high) = interval.high else {
             return Ok(());
         };
@@ -136,6 +167,10 @@ impl Times {
                 return Ok(());
             }
             Stored::One(first) => *first,
+            Stored::Empty => {
+                self.stored = Stored::One(now);
+                return Ok(());
+            }
         };
         let stored = two_settled(alloc, first, low, high, now)?;
         self.stored = stored;
@@ -144,13 +179,17 @@ impl Times {
 
     // Forgets the times that are past the end, and of those that are far enough all but the latest.
     pub fn settle(&mut self, low: u64, high: u64, now: u64)
-        requires rise { RiseTo now self.old }
-        requires live { (time : ℕ) × Contains self.old time × (now - time ≤ high) }
+        requires { RiseTo now self.old }
         ensures { SettlesTimes high low now self.old self.new }
     {
         if let Stored::Several(times) = &mut self.stored {
             settle_all(times, low, high, now);
+            return;
         }
+        if !self.are_ended(high, now) {
+            return;
+        }
+        self.stored = Stored::Empty;
     }
 
     // Whether one of the times is at a distance in the interval. Of those that are far enough the latest is the nearest.
@@ -158,6 +197,7 @@ impl Times {
         ensures { IsTrue result ↔ IsSomeIn interval now self.now }
     {
         match &self.stored {
+            Stored::Empty => false,
             Stored::One(time) => interval.has(now.saturating_sub(*time)),
             Stored::Several(times) => is_some_in(times, interval, now),
         }
@@ -180,11 +220,18 @@ impl Times {
 impl Duplicate for Times {
     fn duplicate(&self, alloc: Global) -> Result<Times, NoMemory> {
         let stored = match &self.stored {
+            Stored::Empty => Stored::Empty,
             Stored::One(time) => Stored::One(*time),
             Stored::Several(times) => Stored::Several(copy_times(alloc, times)?),
         };
         Ok(Times { stored })
     }
+}
+
+fn has_some(times: &VecDeque<u64>) -> bool
+    ensures { result ≡ is_some_time times.now.items }
+{
+    !times.is_empty()
 }
 
 fn last_of(times: &VecDeque<u64>) -> Option<u64>
@@ -235,8 +282,7 @@ fn copy_times(alloc: Global, times: &VecDeque<u64>) -> Result<Box<VecDeque<u64>>
 }
 
 fn settle_all(times: &mut VecDeque<u64>, low: u64, high: u64, now: u64)
-    requires rise { RiseTo now times.old.items }
-    requires live { (time : ℕ) × Contains times.old.items time × (now - time ≤ high) }
+    requires { RiseTo now times.old.items }
     ensures { SettlesTimes high low now times.old.items times.new.items }
 {
     while is_first_passed(times, low, high, now) {
@@ -249,7 +295,22 @@ fn is_first_passed(times: &VecDeque<u64>, low: u64, high: u64, now: u64) -> bool
     ensures passed { IsTrue result → IsFirstPassed high low now times.now.items }
     ensures held { IsFalse result → IsFirstPassed high low now times.now.items → ⊥ }
 {
-    1 < times.len() && is_passed(times[0], times[1], low, high, now)
+    if times.len() < 2 {
+        return is_ended(times, high, now);
+    }
+    is_passed(times[0], times[1], low, high, now)
+}
+
+// Whether there is a time, and the first is past the end.
+fn is_ended(times: &VecDeque<u64>, high: u64, now: u64) -> bool
+    ensures some { IsTrue result → (0 < length times.now.items) × ((d : ℕ) → high < now - get_or times.now.items 0 d) }
+    ensures live { IsFalse result → 0 < length times.now.items → (d : ℕ)
+        → now - get_or times.now.items 0 d ≤ high }
+{
+    match times.front() {
+        Some(first) => high < now.saturating_sub(*first),
+        None => false,
+    }
 }
 
 fn is_passed(first: u64, second: u64, low: u64, high: u64, now: u64) -> bool

@@ -1,6 +1,11 @@
 -- The times at which one row was right, of which some are kept.
 use Rattle.std.specs.Prelude.{ℕ, ◌<◌, ◌≤◌, List, [], ◌∷◌, All, ◌≡◌, ◌-◌, Option, None, Some}
-use Rattle.std.specs.Prelude.{◌⊎◌}
+use Rattle.std.specs.Prelude.{◌⊎◌, Bool, true, false}
+
+-- whether there is a time
+abbrev pub is_some_time : List ℕ → Bool
+is_some_time [] = false
+is_some_time (time ∷ times) = true
 
 -- the times rise, and none is later than the last
 abbrev pub RiseTo : ℕ → List ℕ → Type 0
@@ -29,5 +34,5 @@ IsServedTime (Some high) low now Is time =
 -- the first time is past the end, or the second is far enough
 abbrev pub IsFirstPassed : ℕ → ℕ → ℕ → List ℕ → Type 0
 IsFirstPassed high low now [] = ⊥
-IsFirstPassed high low now (first ∷ []) = ⊥
+IsFirstPassed high low now (first ∷ []) = high < now - first
 IsFirstPassed high low now (first ∷ second ∷ times) = (high < now - first) ⊎ (low ≤ now - second)

@@ -2,11 +2,15 @@
 use Rattle.enf_data.specs.declared.intervals.Interval.{Interval}
 use Rattle.enf_data.specs.declared.values.Value.{Value}
 use Rattle.enf_data.specs.meaning.Membership.{HasNoRepeats, IsIn}
-use Rattle.std.specs.Prelude.{ℕ, List, Contains, drop, ◌≡◌, ◌<◌, All, length, map, ◌⊎◌, Some, ◌-◌}
-use Rattle.std.specs.Prelude.{◌≤◌, ◌↔◌}
+use Rattle.std.specs.Prelude.{ℕ, List, Contains, drop, ◌≡◌, ◌<◌, All, [], length, map, ◌⊎◌, Some, ◌-◌}
+use Rattle.std.specs.Prelude.{◌≤◌, ◌↔◌, slice_get}
 use Rattle.windows.specs.declared.surviving_rows.Surviving.{Surviving}
 use Rattle.windows.specs.declared.surviving_rows.Surviving.TheVariants.{All as Whole, Only, AllBut}
 use Rattle.windows.specs.machine.RowTimes.{RiseTo, AreLeastTimes, IsEndedTime, IsServedTime}
+
+-- the rows, in their places
+abbrev pub rows_of : List (List Value × List ℕ) → List (List Value)
+rows_of entries = map (λ e. e.0) entries
 
 -- the row stands in the list, and the time is one of its times
 abbrev pub HasTime : List (List Value × List ℕ) → List Value → ℕ → Type 0
@@ -18,14 +22,15 @@ abbrev pub HasBehind : List (List Value × List ℕ) → List Value → ℕ → 
 HasBehind entries row time =
     (times : List ℕ) × Contains entries (row, times) × Contains (drop 1 times) time
 
--- no row stands twice, each is so long, and it has times, which rise
+-- no row stands twice, each is so long, and its times rise; a row that was let go has none
 pub record AreWindowEntries (long last : ℕ) (entries : List (List Value × List ℕ)) : Type 0 where
-  pub fit : All (λ e. (length e.0 ≡ long) × RiseTo last e.1 × (0 < length e.1)) entries
+  pub fit : All (λ e. (length e.0 ≡ long) × RiseTo last e.1) entries
   pub unique : HasNoRepeats (map (λ e. e.0) entries)
 
--- the times of each row are just the least
+-- the times of each row that has some are just the least
 abbrev pub AreLeast : Interval → ℕ → List (List Value × List ℕ) → Type 0
-AreLeast interval last entries = All (λ e. AreLeastTimes interval.high interval.low last e.1) entries
+AreLeast interval last entries =
+    All (λ e. (e.1 ≡ []) ⊎ AreLeastTimes interval.high interval.low last e.1) entries
 
 -- a time was added to the times of a row, or was not
 pub record AddsAtMost (now : ℕ) (before after : List ℕ) : Type 0 where
@@ -63,10 +68,12 @@ pub record ForgetsTimes (high low now : ℕ) (before after : List ℕ) : Type 0 
 pub record SettlesTimes (high low now : ℕ) (before after : List ℕ) : Type 0 where
   pub forgets : ForgetsTimes high low now before after
   pub rise : RiseTo now after
-  pub least : AreLeastTimes (Some high) low now after
+  pub least : (after ≡ []) ⊎ AreLeastTimes (Some high) low now after
 
--- times at the front of the times of rows are left out, each of which is past the end, or is served
+-- times at the front of the times of rows are left out, each of which is past the end, or is served; the rows keep
+-- their places
 pub record Forgets (interval : Interval) (now : ℕ) (before after : List (List Value × List ℕ)) : Type 0 where
+  pub rows : rows_of after ≡ rows_of before
   pub from : (row : List Value) (time : ℕ) → HasTime after row time → HasTime before row time
   pub behind : (row : List Value) (time : ℕ) → HasBehind after row time → HasBehind before row time
   pub serves : (row : List Value) (time : ℕ) → HasTime before row time
@@ -77,9 +84,14 @@ abbrev pub IsSettledRow : ℕ → ℕ → ℕ → List (List Value × List ℕ) 
 IsSettledRow high low now entries row = (time : ℕ)
     → (HasTime entries row time → now - time ≤ high) × (HasBehind entries row time → now - time < low)
 
--- just the rows for which S holds stay
+-- where S holds the times stay, and else none does
+abbrev pub IsLetGoUnless : Type 0 → List ℕ → List ℕ → Type 0
+IsLetGoUnless S before after = (S × (after ≡ before)) ⊎ ((S → ⊥) × (after ≡ []))
+
+-- just the rows for which S holds stay, and others keep their place with no times
 pub record KeepsRows (S : List Value → Type 0) (before after : List (List Value × List ℕ)) : Type 0 where
-  pub among : (e : List Value × List ℕ) → Contains after e → Contains before e
+  pub among : (e : List Value × List ℕ) → Contains after e
+      → Contains before e ⊎ ((e.1 ≡ []) × Contains (map (λ x. x.0) before) e.0)
   pub exact : (row : List Value) (time : ℕ) → HasTime after row time ↔ (HasTime before row time × S row)
   pub unique : HasNoRepeats (map (λ e. e.0) before) → HasNoRepeats (map (λ e. e.0) after)
 
@@ -98,6 +110,12 @@ abbrev pub GivesRow : Interval → ℕ → (List Value → Type 0)
     → List (List Value × List ℕ) → List Value → Type 0
 GivesRow interval now S entries row =
     ((times : List ℕ) × Contains entries (row, times) × IsSomeIn interval now times) × S row
+
+-- so it is with the row at this place
+abbrev pub GivesRowAt : Interval → ℕ → (List Value → Type 0)
+    → List (List Value × List ℕ) → ℕ → List Value → Type 0
+GivesRowAt interval now S entries place row =
+    (times : List ℕ) × (slice_get entries place ≡ Some (row, times)) × IsSomeIn interval now times × S row
 
 -- some row has such a time
 abbrev pub GivesSomeRow : Interval → ℕ → List (List Value × List ℕ) → Type 0

@@ -5,15 +5,16 @@ use Rattle.enf_data.specs.declared.values.Value.{Value}
 use Rattle.enf_data.specs.meaning.Membership.{HasNoRepeats, IsIn}
 use Rattle.enf_data.specs.meaning.Valuations.{Valuation}
 use Rattle.std.specs.Prelude.{ℕ, List, map, ◌≡◌, length, Some, Contains, All, ◌-◌, ◌↔◌, ◌⊎◌}
-use Rattle.std.specs.Prelude.{◌≤◌}
+use Rattle.std.specs.Prelude.{◌≤◌, Bool, filter, IfSome, Option}
 use Rattle.valuations.specs.machine.Tables.{AgreesWithRow, HasValuation, Relation, IsTable}
 use Rattle.windows.specs.declared.surviving_rows.Surviving.{Surviving}
 use Rattle.windows.specs.declared.surviving_rows.Surviving.TheVariants.{All as Whole, Only, AllBut}
 use Rattle.windows.specs.machine.CommittedSteps.{to_the_end, StepsAnswer, AreUpTo, HasColumns, CommittedStep, HasPair}
 use Rattle.windows.specs.machine.CommittedSteps.{IsKeptTime, with_committed_step}
-use Rattle.windows.specs.machine.RowTimes.{AreLeastTimes, RiseTo, IsEndedTime, IsServedTime}
+use Rattle.windows.specs.machine.RowTimes.{AreLeastTimes, RiseTo, IsEndedTime, IsServedTime, is_some_time}
 use Rattle.windows.specs.machine.StepQueues.{Queue, AreInReach, AreQueued, AreUpToTime}
-use Rattle.windows.specs.machine.WindowEntries.{AreWindowEntries, AreLeast}
+use Rattle.windows.specs.machine.RowIndexes.{IsIndexOf, PartIndex}
+use Rattle.windows.specs.machine.WindowEntries.{AreWindowEntries, AreLeast, rows_of}
 
 -- rows, each with times at which it was right; the last time is 0 where no step is committed
 pub record Window : Type 0 where
@@ -22,21 +23,27 @@ pub record Window : Type 0 where
   pub last : ℕ
   pub kept : List (List Value × List ℕ)
 
--- the rows with their times
-abbrev pub kept_entries : List (List Value × List ℕ) → List (List Value × List ℕ)
-kept_entries entries = entries
+-- whether the row of an entry has a time
+abbrev pub has_times : List Value × List ℕ → Bool
+has_times e = is_some_time e.1
 
--- the columns are distinct, the rows are as long as they, and of the times of each just the least are kept; where the
--- interval has an end, the queue has the step of each time that is kept, and no step that is past the end
+-- the rows that have times, with these
+abbrev pub kept_entries : List (List Value × List ℕ) → List (List Value × List ℕ)
+kept_entries entries = filter has_times entries
+
+-- the columns are distinct, the rows are as long as they, and of the times of each just the least are kept, or none;
+-- where the interval has an end, the queue has the step of each time that is kept, and no step that is past the end;
+-- where there is an index, it has the places of the rows
 pub record IsWindow (interval : Interval) (columns : List VarId) (last : ℕ)
     (entries : List (List Value × List ℕ))
-    (queue : Queue) : Type 0 where
+    (queue : Queue) (index : Option PartIndex) : Type 0 where
   pub distinct : HasNoRepeats columns
   pub kept : AreWindowEntries (length columns) last entries
   pub least : AreLeast interval last entries
   pub up_to : AreUpToTime last queue.steps
   pub in_reach : AreInReach interval.high last queue.steps
   pub queued : (high : ℕ) → interval.high ≡ Some high → AreQueued entries queue
+  pub indexed : IfSome index (IsIndexOf columns (rows_of entries))
 
 -- a row with the valuation's values has this time
 abbrev pub HasRow : Window → Valuation → ℕ → Type 0

@@ -1,12 +1,12 @@
-use Rattle.windows.proofs.Vocabulary.{◌≡◌, ◌∙◌, ◌++◌, length, refl, sym, ap, subst, kept_entries}
+use Rattle.windows.proofs.Vocabulary.{◌≡◌, ◌∙◌, ◌++◌, length, refl, sym, ap, subst}
 use Rattle.windows.proofs.CopyLemmas.{not_copied}
 use Rattle.windows.proofs.ListSteps.{all_pushed, next_pushed}
 use Rattle.windows.proofs.copies.copy_entries.Goals as goal
 
 pub loop-row-init : goal.loop-row-init
 loop-row-init c =
-    subst (λ l. kept_entries l ++ kept_entries c.into_iter-row-iterator.result ≡ kept_entries c.args.entries.now.entries) (sym c.in_ok-copy.ensures.empty)
-    (ap kept_entries (c.into_iter-row-iterator.ensures.into_iter_gives ∙ c.iter-row-items.ensures.rest))
+    subst (λ l. l ++ c.into_iter-row-iterator.result ≡ c.args.entries.now.entries) (sym c.in_ok-copy.ensures.empty)
+    (c.into_iter-row-iterator.ensures.into_iter_gives ∙ c.iter-row-items.ensures.rest)
 
 pub copy_entry-requires : goal.copy_entry-requires
 copy_entry-requires c =
@@ -14,11 +14,8 @@ copy_entry-requires c =
 
 pub loop-row-preserved : goal.loop-row-preserved
 loop-row-preserved c =
-    next_pushed (kept_entries c.loop-row.copy.entries) (kept_entries c.loop-row.row-iterator) (kept_entries c.next.new.self) (kept_entries c.copy_entry.new.copy.entries)
-    (kept_entries c.args.entries.now.entries)
-    (c.in-Some.row.now, c.in-Some.times.now) (c.in-Some.row.now, c.in-Some.times.now) c.loop-row.invariant (ap kept_entries c.in-Some.ensures.steps) refl c.in_ok-copy_entry.ensures
+    next_pushed c.loop-row.copy.entries c.loop-row.row-iterator c.next.new.self c.copy_entry.new.copy.entries c.args.entries.now.entries
+    (c.in-Some.row.now, c.in-Some.times.now) (c.in-Some.row.now, c.in-Some.times.now) c.loop-row.invariant c.in-Some.ensures.steps refl c.in_ok-copy_entry.ensures
 
 pub returns : goal.returns
-returns c =
-    all_pushed (kept_entries c.loop-row.copy.entries) (kept_entries c.loop-row.row-iterator) (kept_entries c.args.entries.now.entries) c.loop-row.invariant
-    (ap (λ l. length (kept_entries l)) c.in-None.ensures.steps.0)
+returns c = all_pushed c.loop-row.copy.entries c.loop-row.row-iterator c.args.entries.now.entries c.loop-row.invariant (ap length c.in-None.ensures.steps.0)

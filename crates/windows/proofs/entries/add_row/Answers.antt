@@ -1,6 +1,9 @@
-use Rattle.windows.proofs.Vocabulary.{◌∙◌, refl, sym, on_ok_weaker}
+use Rattle.windows.proofs.Vocabulary.{inr, ◌∙◌, refl, sym, on_ok_weaker, IfSome, ap, map-append, subst, [], ◌∷◌, List, ℕ, Value}
 use Rattle.windows.proofs.EntryLemmas.{first_at_most, fit_of, grown_by, kept_first, kept_set, least_first, least_of, least_set, missing, row_added, row_at_most, row_first, sets_at, unique_from}
-use Rattle.windows.proofs.TimeLemmas.{some_least}
+use Rattle.windows.proofs.EntryLemmas.{set_keys}
+use Rattle.std.proofs.lemmas.List.{length-map}
+use Rattle.windows.specs.machine.RowIndexes.{IsIndexOf}
+use Rattle.windows.specs.machine.WindowEntries.{rows_of}
 use Rattle.windows.proofs.entries.add_row.Goals as goal
 
 pub add-requires-clause-rise : goal.add-requires-clause-rise
@@ -31,13 +34,13 @@ pub returns-in-Some-clause-kept : goal.returns-in-Some-clause-kept
 returns-in-Some-clause-kept c =
     kept_set _ c.args.now c.args.row.now c.args.entries.now.entries c.in-Some.place c.index_mut.result.now c.add.new.self c.requires.kept
     (sets_at c.args.row.now c.args.entries.now.entries c.in-Some.place c.index_mut.result.now c.add.new.self (sym c.in-Some.is ∙ c.get_index_of.ensures.index) c.index_mut.ensures.value)
-    c.add.ensures.rise (some_least c.args.interval.high c.args.interval.low c.args.now c.add.new.self c.add.ensures.least)
+    c.add.ensures.rise
 
 pub returns-in-Some-clause-least : goal.returns-in-Some-clause-least
 returns-in-Some-clause-least c =
     least_set c.args.interval c.args.now c.args.row.now c.args.entries.now.entries _ c.index_mut.result.now c.add.new.self c.requires.least
     (sets_at c.args.row.now c.args.entries.now.entries c.in-Some.place c.index_mut.result.now c.add.new.self (sym c.in-Some.is ∙ c.get_index_of.ensures.index)
-    c.index_mut.ensures.value) c.add.ensures.least
+    c.index_mut.ensures.value) (inr c.add.ensures.least)
 
 pub returns-clause-among : goal.returns-clause-among
 returns-clause-among c =
@@ -66,3 +69,18 @@ returns-clause-least c =
     (grown_by c.args.entries.now c.args.row.now c.in_ok-duplicate.field-0 c.one.result c.insert.new.self.entries (missing _ _ c.in_default.not-Some c.get_index_of.ensures.found)
     c.in_ok-duplicate.ensures c.in_ok-insert.ensures.entries)
     c.one.ensures
+
+pub note_place-requires-clause-indexed : goal.note_place-requires-clause-indexed
+note_place-requires-clause-indexed c = (rows_of c.args.entries.now.entries, c.requires.indexed)
+
+pub returns-in-Some-clause-indexed : goal.returns-in-Some-clause-indexed
+returns-in-Some-clause-indexed c = subst (λ rows. IfSome c.args.index.now (IsIndexOf c.args.among.now rows)) (sym (set_keys c.args.entries.now.entries c.in-Some.place c.add.new.self)) c.requires.indexed
+
+pub returns-clause-indexed : goal.returns-clause-indexed
+returns-clause-indexed c =
+    let grown = grown_by c.args.entries.now c.args.row.now c.in_ok-duplicate.field-0 c.one.result c.insert.new.self.entries (missing _ _ c.in_default.not-Some c.get_index_of.ensures.found)
+    c.in_ok-duplicate.ensures c.in_ok-insert.ensures.entries in
+    subst (λ rows. IfSome c.note_place.new.index (IsIndexOf c.args.among.now rows))
+    (sym (ap rows_of grown ∙ map-append (λ (e : List Value × List ℕ). e.0) c.args.entries.now.entries ((c.args.row.now, c.one.result) ∷ [])))
+    (c.in_ok-note_place.ensures.noted (rows_of c.args.entries.now.entries)
+    (c.len.ensures.len ∙ sym (length-map c.args.entries.now.entries (λ (e : List Value × List ℕ). e.0))) c.requires.indexed)

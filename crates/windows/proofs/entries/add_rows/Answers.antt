@@ -1,4 +1,7 @@
 use Rattle.windows.proofs.Vocabulary.{◌∙◌, ◌<◌, length, take, get_or, ap, subst, Contains, AddsTimes, AreWindowEntries, table_row-length}
+use Rattle.windows.proofs.Vocabulary.{IfSome}
+use Rattle.windows.specs.machine.RowIndexes.{IsIndexOf}
+use Rattle.windows.specs.machine.WindowEntries.{rows_of}
 use Rattle.windows.proofs.EntryLemmas.{adds_then, at_most_then, item_there, next_of}
 use Rattle.windows.proofs.entries.add_rows.Goals as goal
 
@@ -21,4 +24,5 @@ loop-row-preserved c =
           c.add_row.new.entries.entries c.loop-row.invariant.1 c.in_ok-add_row.ensures.added),
       subst (λ n. AreWindowEntries n c.args.now c.add_row.new.entries.entries) (table_row-length c.args.right.now c.row-item.result c.rows-row-items.ensures.table there) c.add_row.ensures.kept,
       c.add_row.ensures.least,
+      subst (λ l. IfSome c.add_row.new.index (IsIndexOf l (rows_of c.add_row.new.entries.entries))) (c.as_slice-among.ensures ∙ c.columns.ensures.columns) c.add_row.ensures.indexed,
     )

@@ -1,15 +1,18 @@
-use Rattle.windows.proofs.Vocabulary.{◌∙◌, None, sym, UpdatesBy}
-use Rattle.windows.proofs.EntryLemmas.{forgets_at, forgets_missing, missing, some_at, takes_at, unique_from}
-use Rattle.enf_data.specs.contracts.rows.RowPartialEq.TheImpl as rows
+use Rattle.windows.proofs.Vocabulary.{◌∙◌, sym, subst, set_value_at, HasNoRepeats}
+use Rattle.windows.proofs.EntryLemmas.{SetsAt, forgets_missing, missing, row_let_go, set_keys, sets_at, unique_from}
 use Rattle.windows.proofs.entries.forget_row.Goals as goal
 
-pub returns-in-Some : goal.returns-in-Some
-returns-in-Some c =
-    let t = takes_at c.swap_remove_index.result c.args.entries.now.entries c.swap_remove_index.new.self.entries c.in-Some.place c.swap_remove_index.ensures.entry c.in-Some.ensures.within
-    c.swap_remove_index.ensures.entries in
-    forgets_at c.args.row.now c.args.entries.now.entries c.swap_remove_index.new.self.entries c.in-Some.place t.0 (sym c.in-Some.is ∙ c.get_index_of.ensures.index)
-    (some_at c.swap_remove_index.result t.0.taken (λ p. UpdatesBy rows.eq-value.it (rows.eq-value.it p.0) c.args.entries.now c.swap_remove_index.new.self None) t.1
-    c.swap_remove_index.ensures.updates).1 (unique_from c.swap_remove_index.new.self.entries c.swap_remove_index.ensures.unique)
+pub returns-in-Some-clause-keeps : goal.returns-in-Some-clause-keeps
+returns-in-Some-clause-keeps c =
+    let es = c.args.entries.now.entries in
+    let sets = sets_at c.args.row.now es c.in-Some.place c.index_mut.result.now c.clear.new.self (sym c.in-Some.is ∙ c.get_index_of.ensures.index) c.index_mut.ensures.value in
+    row_let_go c.args.row.now es (set_value_at es c.in-Some.place c.clear.new.self) c.index_mut.result.now
+    (subst (SetsAt es (set_value_at es c.in-Some.place c.clear.new.self) c.args.row.now c.index_mut.result.now) c.clear.ensures sets)
+    (set_keys es c.in-Some.place c.clear.new.self)
+    (subst HasNoRepeats (sym (set_keys es c.in-Some.place c.clear.new.self)) (unique_from es c.len-given.ensures.unique))
 
-pub returns-in_default : goal.returns-in_default
-returns-in_default c = forgets_missing c.args.row.now c.args.entries.now.entries (missing _ _ c.in_default.not-Some c.get_index_of.ensures.found)
+pub returns-in-Some-clause-rows : goal.returns-in-Some-clause-rows
+returns-in-Some-clause-rows c = set_keys c.args.entries.now.entries c.in-Some.place c.clear.new.self
+
+pub returns-in_default-clause-keeps : goal.returns-in_default-clause-keeps
+returns-in_default-clause-keeps c = forgets_missing c.args.row.now c.args.entries.now.entries (missing _ _ c.in_default.not-Some c.get_index_of.ensures.found)

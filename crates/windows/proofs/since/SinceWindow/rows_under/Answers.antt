@@ -8,7 +8,7 @@ returns-in-Some-clause-rows g c =
     let v = g.V.Lookup.valuation c.args.v.now in
     let same = ap (λ w. w.columns) c.self.view_is in
     let is : cells c.args.self.now.columns v ≡ map Some c.in-Some.row =
-    subst (λ l. cells l v ≡ map Some c.in-Some.row) (c.as_slice.ensures ∙ same) (subst (λ o. IfSome o (λ row. cells c.as_slice.result.now v ≡ map Some row)) c.in-Some.is c.in_ok-row.ensures) in
+    subst (λ l. cells l v ≡ map Some c.in-Some.row) (c.as_slice.ensures ∙ same) (subst (λ o. IfSome o (λ row. cells c.as_slice.result.now v ≡ map Some row)) c.in-Some.is c.in_ok-row.ensures.some) in
     ok_both c.row_where.result _ _ (λ t. (w : Valuation) → HasValuation t w ↔ (AnswersBy c.args.self.now c.args.time (SurvivesFor c.args.surviving.now) c.args.right.now w
     × AgreesWhereBound c.args.self.now.columns v w))
     c.row_where.ensures.columns c.row_where.ensures.rows
