@@ -52,4 +52,4 @@ pub use Rattle.sleepers.specs.machine.Laws.{StepsCanPutIn, StepsGoInOrder}
 pub use Rattle.sleepers.specs.machine.Patterns.{HasNone}
 pub use Rattle.sleepers.specs.machine.Places.{IsPlaceBefore, Place, WasMade, beginning_at, places_from}
 pub use Rattle.wake_patterns.specs.machine.Laws.{BringsFresh}
-pub use Rattle.wake_patterns.specs.machine.WakePatterns.{met_by, missed_by, pattern_of, patterns_of_guard, wake_patterns}
+pub use Rattle.wake_patterns.specs.machine.WakePatterns.{fails_without, holds_without, met_by, missed_by, pattern_of, wake_patterns}

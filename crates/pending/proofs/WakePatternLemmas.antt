@@ -3,9 +3,9 @@ use Rattle.pending.proofs.Vocabulary.{◌≡◌, ℕ, zero, suc, ◌≤◌, Bool
 use Rattle.pending.proofs.Vocabulary.{here, Valuation, values_of_terms, with_values, NameId, Step, Term, VarId, Value, Formula, Plan, CausePlan, SuppressPlan, Both, Either, TestOr, Guarded}
 use Rattle.pending.proofs.Vocabulary.{EventuallyPlan, AlwaysPlan, UntilPlan, NextPlan, HasNone, Pattern, CanAskNode, CanAskOf, Begun, LacksNothing, TakesOrElse, TakesPresent, IfElse, time_now}
 use Rattle.pending.proofs.Vocabulary.{Missing, OfEvent, LiteralUnless, cause_literal, suppress_literal, AreGuardRows, Gathers, last_position, After, AtNode, BecomesAt, MissesAt, MissingOf, node_of}
-use Rattle.pending.proofs.Vocabulary.{IsWindowNotOver, InstanceSleeps, wake_patterns_at, wake_patterns_of, pattern_of, met_by, missed_by, wake_patterns, patterns_of_guard, BringsFresh, AtEach-weaker}
+use Rattle.pending.proofs.Vocabulary.{IsWindowNotOver, InstanceSleeps, wake_patterns_at, wake_patterns_of, pattern_of, met_by, missed_by, wake_patterns, fails_without, holds_without, BringsFresh, AtEach-weaker}
 use Rattle.pending.proofs.Vocabulary.{Instance, Literal}
-use Rattle.wake_patterns.proofs.PatternLemmas.{Extends, AreUnbound, BindsNew, BringsNew, plan_brings_new, events, not_there, one_of, two_of, of_either_some, under_row, guard_fails}
+use Rattle.wake_patterns.proofs.PatternLemmas.{Extends, AreUnbound, BindsNew, BringsNew, plan_brings_new, events, not_there, one_of, two_of, of_narrower_some, under_row, guard_fails, guard_holds}
 
 -- ---- lists of which nothing is left
 
@@ -39,13 +39,13 @@ module _ (v : Valuation) (trace : List Step) where
       let empty = nil_parts first rest all in
       ⊎_elim (λ l. lacks left w more new.0 ps l none (subst (Missing trace left w) empty.0 one))
       (λ r. lacks right w more new.1 ps r none (subst (Missing trace right w) empty.1 other))
-      (of_either_some (met_by v left) (met_by v right) ps is)
+      (of_narrower_some (met_by v left) (met_by v right) ps is)
   lacks (Either node left right) w more new ps is none missing =
       let (xs, ys, l, r, front, back) = two_of v trace at (met_by v left) (met_by v right) ps is none in
       ⊎_elim (λ m. lacks left w more new.0 xs l front m.0)
       (λ n. ⊎_elim (λ m. lacks right w more new.1 ys r back m.0) (λ m. lacks right w more new.1 ys r back m.2) n) missing
   lacks (TestOr node guard test body) w more new ps is none missing =
-      let (xs, ys, l, r, front, back) = two_of v trace at (patterns_of_guard v test) (met_by v body) ps is none in
+      let (xs, ys, l, r, front, back) = two_of v trace at (fails_without v test) (met_by v body) ps is none in
       ⊎_elim (λ m. guard_fails v trace at w more test new.0 xs l front m.0) (λ m. lacks body w more new.1 ys r back m.1) missing
   lacks (AlwaysPlan node place zero high body) w more new ps is none missing = lacks body w more new ps is none missing
   lacks (AlwaysPlan node place (suc low) high body) w more new ps is none missing = absurd (none-some ps is)
@@ -58,7 +58,7 @@ module _ (v : Valuation) (trace : List Step) where
   -- ---- a plan that misses something by none of the events misses nothing, and begins nothing
 
   no_rows : {Y : Type 0} (w : Valuation) → Extends v w → (xs : List VarId) (test : Formula) (ps : List Pattern)
-      → AreUnbound v xs → BindsNew v test → patterns_of_guard v test ≡ Some ps → HasNone ps (events v trace at)
+      → AreUnbound v xs → BindsNew v test → fails_without v test ≡ Some ps → HasNone ps (events v trace at)
       → (rows : List (List Value)) → AreGuardRows trace w xs test rows → (P : List Value → List Y → Type 0) (ys : List Y) → Gathers P rows ys → ys ≡ []
   no_rows w more xs test ps new binds is none [] are P ys gathered = gathered
   no_rows w more xs test ps new binds is none (row ∷ rows) are P ys gathered =
@@ -87,12 +87,14 @@ module _ (v : Valuation) (trace : List Step) where
   misses_nothing (Either node left right) w more new ps is none literals missing =
       let (xs, ys, l, r, front, back) = two_of v trace at (missed_by v left) (missed_by v right) ps is none in
       ⊎_elim (λ m. m.1) (λ n. ⊎_elim (λ m. m.1) (λ m. misses_nothing right w more new.1 ys r back literals m.2) n) missing
-  misses_nothing (TestOr node guard test body) w more new ps is none literals missing =
-      ⊎_elim (λ m. m.1) (λ m. misses_nothing body w more new.1 ps is none literals m.1) missing
+  misses_nothing (TestOr node guard test body) w more new ps is none literals missing = ⊎_elim
+      (λ m. m.1)
+      (λ m. ⊎_elim (λ l. absurd (m.0 (guard_holds v trace at w more test new.0 ps l none))) (λ b. misses_nothing body w more new.1 ps b none literals m.1)
+      (of_narrower_some (holds_without v test) (missed_by v body) ps is)) missing
   misses_nothing (Guarded node xs guard test body) w more new ps is none literals (rows, are, gathered) =
       ⊎_elim (λ l. no_rows w more xs test ps new.0 new.1 l none rows are _ literals gathered)
       (λ b. gathers_nil (λ row. Missing trace body (with_values xs row w)) (λ row. misses_nothing body (with_values xs row w) (under_row v trace at w more xs row new.0) new.2 ps b none) rows literals gathered)
-      (of_either_some (patterns_of_guard v test) (missed_by v body) ps is)
+      (of_narrower_some (fails_without v test) (missed_by v body) ps is)
   misses_nothing plan w more new ps is none literals missing = absurd (none-some ps is)
 
   where_is : {A B Q : Type 0} (b : Bool) → (A → Q) → (B → Q) → IfElse b A B → Q
@@ -121,13 +123,15 @@ module _ (v : Valuation) (trace : List Step) where
       (TakesOrElse trace right w (Begun trace rule right w instances) (TakesOrElse trace left w (Begun trace rule left w instances) (IsNone instances))) → IsNone instances
       = where_is _ ahead (takes left w on_left ahead) in
       where_is _ second (takes right w on_right second) begun
-  begins_nothing (TestOr node guard test body) w more new ps is none rule instances begun =
-      ⊎_elim (λ m. m.1) (λ m. begins_nothing body w more new.1 ps is none rule instances m.1) begun
+  begins_nothing (TestOr node guard test body) w more new ps is none rule instances begun = ⊎_elim
+      (λ m. m.1)
+      (λ m. ⊎_elim (λ l. absurd (m.0 (guard_holds v trace at w more test new.0 ps l none))) (λ b. begins_nothing body w more new.1 ps b none rule instances m.1)
+      (of_narrower_some (holds_without v test) (missed_by v body) ps is)) begun
   begins_nothing (Guarded node xs guard test body) w more new ps is none rule instances (rows, are, gathered) =
       ⊎_elim (λ l. no_rows w more xs test ps new.0 new.1 l none rows are _ instances gathered)
       (λ b. gathers_nil (λ row. Begun trace rule body (with_values xs row w)) (λ row. begins_nothing body (with_values xs row w) (under_row v trace at w more xs row new.0) new.2 ps b none rule)
       rows instances gathered)
-      (of_either_some (patterns_of_guard v test) (missed_by v body) ps is)
+      (of_narrower_some (fails_without v test) (missed_by v body) ps is)
   begins_nothing plan w more new ps is none rule instances begun = absurd (none-some ps is)
 
 -- ---- what is pending

@@ -1,8 +1,8 @@
 -- Without an event that it waits for a plan's formula fails, or holds.
 use Rattle.wake_patterns.proofs.Vocabulary.{◌≡◌, ℕ, zero, suc, ◌-◌, ◌<◌, ◌≤◌, List, Option, None, Some, length, arith, ⊎_elim, cases_lt, none-some, subst, sym, values_of_terms, Valuation, refl}
 use Rattle.wake_patterns.proofs.Vocabulary.{with_values, Step, step_at, Formula, Sat, IsIn, elapsed, formula_for, interval_from_to, Plan, CausePlan, SuppressPlan, Both, Either, TestOr, Guarded}
-use Rattle.wake_patterns.proofs.Vocabulary.{AlwaysPlan, UntilPlan, HasNone, Pattern, met_by, missed_by, patterns_of_guard, pattern_of, BringsFreshUnder}
-use Rattle.wake_patterns.proofs.PatternLemmas.{Extends, BringsNew, plan_brings_new, events, guard_fails, not_among, of_either_some, one_of, two_of, under_row}
+use Rattle.wake_patterns.proofs.Vocabulary.{AlwaysPlan, UntilPlan, HasNone, Pattern, met_by, missed_by, fails_without, holds_without, pattern_of, BringsFreshUnder}
+use Rattle.wake_patterns.proofs.PatternLemmas.{Extends, BringsNew, plan_brings_new, events, guard_fails, guard_holds, not_among, of_narrower_some, one_of, two_of, under_row}
 
 module _ (v : Valuation) (trace : List Step) (i : ℕ) where
   -- nothing has passed where nothing was begun before
@@ -32,12 +32,12 @@ module _ (v : Valuation) (trace : List Step) (i : ℕ) where
     fails (Both node left right) w more new ps is none holds = ⊎_elim
         (λ l. fails left w more new.0 ps l none holds.0)
         (λ r. fails right w more new.1 ps r none holds.1)
-        (of_either_some (met_by v left) (met_by v right) ps is)
+        (of_narrower_some (met_by v left) (met_by v right) ps is)
     fails (Either node left right) w more new ps is none holds =
         let (xs, ys, l, r, front, back) = two_of v trace i (met_by v left) (met_by v right) ps is none in
         holds (fails left w more new.0 xs l front) (fails right w more new.1 ys r back)
     fails (TestOr node guard test body) w more new ps is none holds =
-        let (xs, ys, l, r, front, back) = two_of v trace i (patterns_of_guard v test) (met_by v body) ps is none in
+        let (xs, ys, l, r, front, back) = two_of v trace i (fails_without v test) (met_by v body) ps is none in
         holds (guard_fails v trace i w more test new.0 xs l front) (fails body w more new.1 ys r back)
     fails (AlwaysPlan node place zero high body) w more new ps is none holds =
         holds (λ never. never (i, omega arith, there, at_once 0 high refl, fails body w more new ps is none, λ k from before. tt))
@@ -63,11 +63,14 @@ module _ (v : Valuation) (trace : List Step) (i : ℕ) where
   holds (Either node left right) w more new ps is none =
       let (xs, ys, l, r, front, back) = two_of v trace i (missed_by v left) (missed_by v right) ps is none in
       λ no_left no_right. no_left (holds left w more new.0 xs l front)
-  holds (TestOr node guard test body) w more new ps is none = λ no_test no_body. no_body (holds body w more new.1 ps is none)
+  holds (TestOr node guard test body) w more new ps is none = ⊎_elim
+      (λ l no_test no_body. no_test (guard_holds v trace i w more test new.0 ps l none))
+      (λ b no_test no_body. no_body (holds body w more new.1 ps b none))
+      (of_narrower_some (holds_without v test) (missed_by v body) ps is)
   holds (Guarded node xs guard test body) w more new ps is none = λ row long on_guard. ⊎_elim
       (λ l. absurd (guard_fails v trace i (with_values xs row w) (under_row v trace i w more xs row new.0) test new.1 ps l none on_guard))
       (λ b. holds body (with_values xs row w) (under_row v trace i w more xs row new.0) new.2 ps b none)
-      (of_either_some (patterns_of_guard v test) (missed_by v body) ps is)
+      (of_narrower_some (fails_without v test) (missed_by v body) ps is)
   holds plan w more new ps is none = absurd (none-some ps is)
 
   itself : Extends v v

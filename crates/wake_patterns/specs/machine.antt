@@ -1,3 +1,4 @@
 pub mod Cases
+pub mod KnownTruths
 pub mod WakePatterns
 pub mod Laws

@@ -2,8 +2,12 @@
 //! It stands on `sleepers`, `plan_terms`, `valuations`, `enf_formula` and `enf_data`.
 #![tactic(auto)]
 
+mod guard_patterns;
+mod known_truths;
 pub mod laws;
+mod patterns;
 pub mod plan_patterns;
 pub mod worked_cases;
 
-pub use plan_patterns::{of_both, patterns_of};
+pub use patterns::of_both;
+pub use plan_patterns::patterns_of;

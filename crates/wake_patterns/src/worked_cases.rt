@@ -6,8 +6,8 @@ ghost use Rattle.enf_formula.specs.machine.Cases.{variable_x};
 ghost use Rattle.plan_terms.specs.machine.Cases.{cause_p, each_soon, plan_cause_q_x, x_is};
 ghost use Rattle.sleepers.specs.machine.Patterns.{HasNone, MatchesPattern};
 ghost use Rattle.wake_patterns.specs.machine.Cases.{no_q, p_alone, p_open, q_alone, q_fixed, q_open};
-ghost use Rattle.wake_patterns.specs.machine.Cases.{value_one, value_two};
-ghost use Rattle.wake_patterns.specs.machine.WakePatterns.{patterns_of_guard, wake_patterns};
+ghost use Rattle.wake_patterns.specs.machine.Cases.{value_one, value_two, x_below_two};
+ghost use Rattle.wake_patterns.specs.machine.WakePatterns.{fails_without, holds_without, narrower, wake_patterns};
 ghost use Rattle.enf_formula.specs.meaning.Satisfaction as formula;
 ghost use Rattle.plan_terms.specs.meaning.Plans as plan;
 
@@ -24,16 +24,47 @@ pub fn patterns()
 
 /// What wakes guards and tests.
 pub fn guards()
-    ensures first_that_has_some { patterns_of_guard no_values (formula.And 0 (formula.True 0) formula_p_x)
+    ensures first_that_has_some { fails_without no_values (formula.And 0 (formula.True 0) formula_p_x)
         ≡ Some (p_open ∷ []) }
-    ensures first_of_two { patterns_of_guard no_values (formula.And 0 formula_q_x formula_p_x)
+    ensures first_of_two_alike { fails_without no_values (formula.And 0 formula_q_x formula_p_x)
         ≡ Some (q_open ∷ []) }
-    ensures both { patterns_of_guard no_values (formula.Or 0 formula_p_x formula_q_x)
+    ensures both { fails_without no_values (formula.Or 0 formula_p_x formula_q_x)
         ≡ Some (p_open ∷ q_open ∷ []) }
-    ensures not_one_alone { patterns_of_guard no_values (formula.Or 0 formula_p_x (formula.True 0)) ≡ None }
-    ensures within_exists { patterns_of_guard no_values (formula.Exists 0 (variable_x ∷ []) formula_q_x)
+    ensures not_one_alone { fails_without no_values (formula.Or 0 formula_p_x (formula.True 0)) ≡ None }
+    ensures within_exists { fails_without no_values (formula.Exists 0 (variable_x ∷ []) formula_q_x)
         ≡ Some (q_open ∷ []) }
-    ensures denied { patterns_of_guard no_values (formula.Not 0 formula_p) ≡ None }
+    ensures denied { fails_without no_values (formula.Not 0 formula_p) ≡ None }
+    ensures denied_holds { holds_without no_values (formula.Not 0 formula_p) ≡ Some (p_alone ∷ []) }
+    ensures event_does_not_hold { holds_without no_values formula_p ≡ None }
+{}
+
+/// Which of two alternatives is taken: the one of which more is fixed.
+pub fn alternatives()
+    ensures fixed { narrower (Some (p_open ∷ [])) (Some (q_fixed value_one ∷ [])) ≡ Some (q_fixed value_one ∷ []) }
+    ensures fixed_first { narrower (Some (q_fixed value_one ∷ [])) (Some (p_open ∷ []))
+        ≡ Some (q_fixed value_one ∷ []) }
+    ensures alike { narrower (Some (p_open ∷ [])) (Some (q_open ∷ [])) ≡ Some (p_open ∷ []) }
+    ensures each_counts { narrower (Some (q_fixed value_one ∷ p_open ∷ [])) (Some (q_fixed value_two ∷ []))
+        ≡ Some (q_fixed value_two ∷ []) }
+    ensures no_event { narrower (Some (q_fixed value_one ∷ [])) (Some []) ≡ Some [] }
+    ensures only_one { narrower (Some (p_open ∷ [])) None ≡ Some (p_open ∷ []) }
+    ensures only_the_other { narrower None (Some (p_open ∷ [])) ≡ Some (p_open ∷ []) }
+    ensures beside_a_narrower_one { wake_patterns (x_is value_one)
+        (plan.EventuallyPlan 0 0 0 9 (plan.Both 1 (cause_p 2) plan_cause_q_x)) ≡ Some (q_fixed value_one ∷ []) }
+{}
+
+/// What is decided once for all, of the comparison of x with 2.
+pub fn constants()
+    ensures holds { holds_without (x_is value_one) x_below_two ≡ Some [] }
+    ensures may_not_fail { fails_without (x_is value_one) x_below_two ≡ None }
+    ensures fails { fails_without (x_is value_two) x_below_two ≡ Some [] }
+    ensures not_bound { fails_without no_values x_below_two ≡ None }
+    ensures not_bound_holds { holds_without no_values x_below_two ≡ None }
+    ensures beside_an_event { fails_without (x_is value_one) (formula.And 0 x_below_two formula_p) ≡ Some (p_alone ∷ []) }
+    ensures goal { wake_patterns (x_is value_two)
+        (plan.EventuallyPlan 0 0 0 9 (plan.TestOr 1 0 x_below_two (cause_p 2))) ≡ Some (p_alone ∷ []) }
+    ensures never_missed { wake_patterns (x_is value_one)
+        (plan.AlwaysPlan 0 0 0 9 (plan.TestOr 1 0 x_below_two no_q)) ≡ Some [] }
 {}
 
 /// What wakes operators on the future.

@@ -2,7 +2,9 @@
 use Rattle.enf_data.specs.declared.values.Value.{Value}
 use Rattle.enf_data.specs.declared.values.Value.TheVariants.{Num}
 use Rattle.std.specs.Prelude.{[], ◌∷◌, None, Some, pos}
-use Rattle.enf_formula.specs.machine.Cases.{name_p, name_q}
+use Rattle.enf_data.specs.declared.terms.Term.TheVariants.{Const, Var}
+use Rattle.enf_formula.specs.machine.Cases.{name_p, name_q, variable_x}
+use Rattle.enf_formula.specs.meaning.Satisfaction.{Formula, Less}
 use Rattle.plan_terms.specs.meaning.Plans.{Plan, SuppressPlan}
 use Rattle.sleepers.specs.declared.patterns.Pattern.{Pattern}
 
@@ -12,6 +14,10 @@ value_one = Num (pos 1)
 
 abbrev pub value_two : Value
 value_two = Num (pos 2)
+
+-- x < 2
+abbrev pub x_below_two : Formula
+x_below_two = Less 0 (Var variable_x) (Const value_two)
 
 -- q() is not to be there
 abbrev pub no_q : Plan

@@ -2,11 +2,14 @@
 use Rattle.enf_data.specs.declared.events.NameId.{NameId}
 use Rattle.enf_data.specs.declared.terms.Term.{Term}
 use Rattle.enf_data.specs.meaning.Valuations.{Valuation, value_of_term}
-use Rattle.std.specs.Prelude.{List, map, [], ◌∷◌, Option, Some, ◌++◌, None, zero, suc}
-use Rattle.enf_formula.specs.meaning.Satisfaction.{Formula, And, Atom, Exists, Or}
+use Rattle.std.specs.Prelude.{List, map, [], ◌∷◌, Option, Some, ◌++◌, None, zero, suc, Bool, true, false}
+use Rattle.std.specs.Prelude.{ℕ, ◌^◌, ◌-◌, cond, is_some, min, nat_lt}
+use Rattle.std.specs.List.{count_by}
+use Rattle.enf_formula.specs.meaning.Satisfaction.{Formula, And, Atom, Exists, Forall, Implies, Not, Or}
 use Rattle.plan_terms.specs.meaning.Plans.{Plan, CausePlan, Both, Either, TestOr, AlwaysPlan, UntilPlan, SuppressPlan}
 use Rattle.plan_terms.specs.meaning.Plans.{Guarded, EventuallyPlan}
 use Rattle.sleepers.specs.declared.patterns.Pattern.{Pattern}
+use Rattle.wake_patterns.specs.machine.KnownTruths.{known_truth}
 
 -- ---- patterns
 
@@ -24,28 +27,58 @@ patterns_of_both None others = None
 patterns_of_both (Some patterns) None = None
 patterns_of_both (Some patterns) (Some others) = Some (patterns ++ others)
 
--- the patterns of the first side that has some
-abbrev pub patterns_of_either : Option (List Pattern) → Option (List Pattern) → Option (List Pattern)
-patterns_of_either None others = others
-patterns_of_either (Some patterns) others = Some patterns
+-- how many arguments are fixed
+abbrev pub fixed_count : Pattern → ℕ
+fixed_count pattern = count_by is_some pattern.args
 
--- the patterns without an event of which a guard or test holds nowhere: of `and` the patterns of the first side that
--- has some, of `or` the patterns of both sides
-abbrev pub patterns_of_guard : Valuation → Formula → Option (List Pattern)
-patterns_of_guard v (Atom place name terms) = patterns_of_one v name terms
-patterns_of_guard v (And place g h) = patterns_of_either (patterns_of_guard v g) (patterns_of_guard v h)
-patterns_of_guard v (Or place g h) = patterns_of_both (patterns_of_guard v g) (patterns_of_guard v h)
-patterns_of_guard v (Exists place xs g) = patterns_of_guard v g
-patterns_of_guard v f = None
+-- the fewest that are fixed in one of the patterns; of no pattern a number that none exceeds
+abbrev pub least_fixed : List Pattern → ℕ
+least_fixed [] = 2 ^ 64 - 1
+least_fixed (pattern ∷ patterns) = min (fixed_count pattern) (least_fixed patterns)
+
+-- of two alternatives the one that has patterns; where both have some, that of which more is fixed, and the first where
+-- as much is
+abbrev pub narrower : Option (List Pattern) → Option (List Pattern) → Option (List Pattern)
+narrower None others = others
+narrower (Some patterns) None = Some patterns
+narrower (Some patterns) (Some others) =
+    cond (nat_lt (least_fixed patterns) (least_fixed others)) (Some others) (Some patterns)
+
+-- no event is waited for where the truth is known to be this one; else each step is looked at
+abbrev pub if_known : (wanted : Bool) → Option Bool → Option (List Pattern)
+if_known true (Some true) = Some []
+if_known false (Some false) = Some []
+if_known wanted truth = None
+
+-- the patterns without an event of which a guard or test fails, whatever the variables are that v does not bind, and
+-- those without which it holds so: where one of two parts is enough, the narrower patterns, and where both have to be,
+-- the patterns of both
+abbrev mutual
+  pub fails_without : Valuation → Formula → Option (List Pattern)
+  fails_without v (Atom place name terms) = patterns_of_one v name terms
+  fails_without v (Not place g) = holds_without v g
+  fails_without v (And place g h) = narrower (fails_without v g) (fails_without v h)
+  fails_without v (Or place g h) = patterns_of_both (fails_without v g) (fails_without v h)
+  fails_without v (Implies place g h) = patterns_of_both (holds_without v g) (fails_without v h)
+  fails_without v (Exists place xs g) = fails_without v g
+  fails_without v f = if_known false (known_truth v f)
+
+  pub holds_without : Valuation → Formula → Option (List Pattern)
+  holds_without v (Not place g) = fails_without v g
+  holds_without v (And place g h) = patterns_of_both (holds_without v g) (holds_without v h)
+  holds_without v (Or place g h) = narrower (holds_without v g) (holds_without v h)
+  holds_without v (Implies place g h) = narrower (fails_without v g) (holds_without v h)
+  holds_without v (Forall place xs g) = holds_without v g
+  holds_without v f = if_known true (known_truth v f)
 
 -- ---- what plans wait for
 
 -- without an event of these a plan does not hold
 abbrev pub met_by : Valuation → Plan → Option (List Pattern)
 met_by v (CausePlan node place name terms) = patterns_of_one v name terms
-met_by v (Both node left right) = patterns_of_either (met_by v left) (met_by v right)
+met_by v (Both node left right) = narrower (met_by v left) (met_by v right)
 met_by v (Either node left right) = patterns_of_both (met_by v left) (met_by v right)
-met_by v (TestOr node guard test body) = patterns_of_both (patterns_of_guard v test) (met_by v body)
+met_by v (TestOr node guard test body) = patterns_of_both (fails_without v test) (met_by v body)
 met_by v (AlwaysPlan node place zero high body) = met_by v body
 met_by v (UntilPlan node place zero high left right) = patterns_of_both (met_by v right) (met_by v left)
 met_by v (UntilPlan node place (suc low) high left right) = met_by v left
@@ -56,8 +89,8 @@ abbrev pub missed_by : Valuation → Plan → Option (List Pattern)
 missed_by v (SuppressPlan node place name terms) = patterns_of_one v name terms
 missed_by v (Both node left right) = patterns_of_both (missed_by v left) (missed_by v right)
 missed_by v (Either node left right) = patterns_of_both (missed_by v left) (missed_by v right)
-missed_by v (TestOr node guard test body) = missed_by v body
-missed_by v (Guarded node xs guard test body) = patterns_of_either (patterns_of_guard v test) (missed_by v body)
+missed_by v (TestOr node guard test body) = narrower (holds_without v test) (missed_by v body)
+missed_by v (Guarded node xs guard test body) = narrower (fails_without v test) (missed_by v body)
 missed_by v plan = None
 
 -- without an event of these a step changes nothing of what an operator on the future asks, up to the end of its window;
