@@ -3,10 +3,10 @@ use Rattle.trace_audit.proofs.Vocabulary.{◌≡◌, ℕ, zero, suc, ◌+◌, �
 use Rattle.trace_audit.proofs.Vocabulary.{inr, ⊎_elim, ◌∙◌, append_assoc, AllByRecursion, append-nil, get_or-take, get_or_append_left, length-take-le, get_or-append_seam, none-some, same_Some}
 use Rattle.trace_audit.proofs.Vocabulary.{slice_get-get_or, IsTrace, no_step, step_at, AllByRecursion-weaker, none_in_nil, no_values, variable_cmp, HasNoRepeats, Event, Step, VarId, Formula, Sat}
 use Rattle.trace_audit.proofs.Vocabulary.{PastDecides, AgreeUpTo, is_past, BoundFormula, AreCopies, GuardsWillHold, IsGuard, Past, PastStands, PastTables, guard_formula, AreUpToTimeOf, typed_of}
-use Rattle.trace_audit.proofs.Vocabulary.{LastIsAtTheEnd, LastIsTheNew, NoneIsLater, TraceGrows, PlacedGuard, IsListedNode, IsSafeNode, LooksBack, EndsInTime, AreWellFormed, IsWellFormed, guards_of}
-use Rattle.trace_audit.proofs.Vocabulary.{Plan, CausePlan, SuppressPlan, Both, Either, TestOr, Guarded, EventuallyPlan, AlwaysPlan, UntilPlan, NextPlan, AtEach-from_nodes, AtEach, IsScopedNode}
-use Rattle.trace_audit.proofs.Vocabulary.{last_time, CanEvaluatePlan, IsAskable, Auditing, Audits, end_of, audited_rules, NothingElse, AreJudged, IsJudged, rule_at, IsAt, AuditMoment, audit_moment}
-use Rattle.trace_audit.proofs.Vocabulary.{placed_guard, IsVerdict, formulas_for, OpenRule, RuleAt, Holds, Fails}
+use Rattle.trace_audit.proofs.Vocabulary.{LastIsAtTheEnd, LastIsTheNew, NoneIsLater, TraceGrows, PlacedGuard, IsListedNode, IsSafeNode, GuardBindsFresh, BringsFresh, LooksBack, EndsInTime}
+use Rattle.trace_audit.proofs.Vocabulary.{AreWellFormed, IsWellFormed, guards_of, Plan, CausePlan, SuppressPlan, Both, Either, TestOr, Guarded, EventuallyPlan, AlwaysPlan, UntilPlan, NextPlan}
+use Rattle.trace_audit.proofs.Vocabulary.{AtEach-from_nodes, AtEach, IsScopedNode, last_time, CanEvaluatePlan, IsAskable, Auditing, Audits, end_of, audited_rules, NothingElse, AreJudged, IsJudged}
+use Rattle.trace_audit.proofs.Vocabulary.{rule_at, IsAt, AuditMoment, audit_moment, placed_guard, IsVerdict, formulas_for, RuleAt, Holds, Fails, slice_get}
 use Rattle.std.specs.FinMap as finite
 
 -- ---- guards that are placed
@@ -27,32 +27,55 @@ placed_back (p ∷ placed) (suc number) g back is = placed_back placed number g 
 
 -- ---- a plan of a policy can be asked where nothing is bound
 
-each_askable : (guards : List (Formula × List VarId)) (plan : Plan) (scope : List VarId) → AtEach IsScopedNode plan scope
-    → AtEach IsSafeNode plan scope → AtEach (IsListedNode guards) plan scope → AtEach (λ node inner. EndsInTime node) plan scope
-    → AtEach (IsAskable guards) plan scope
-each_askable gs (CausePlan node place name terms) scope s f l e = record { scoped = s; safe = f; listed = l; ends = e }
-each_askable gs (SuppressPlan node place name terms) scope s f l e = record { scoped = s; safe = f; listed = l; ends = e }
-each_askable gs (Both node left right) scope s f l e =
-    (record { scoped = s.0; safe = f.0; listed = l.0; ends = e.0 }, each_askable gs left scope s.1 f.1 l.1 e.1, each_askable gs right scope s.2 f.2 l.2 e.2)
-each_askable gs (Either node left right) scope s f l e =
-    (record { scoped = s.0; safe = f.0; listed = l.0; ends = e.0 }, each_askable gs left scope s.1 f.1 l.1 e.1, each_askable gs right scope s.2 f.2 l.2 e.2)
-each_askable gs (TestOr node guard test body) scope s f l e =
-    (record { scoped = s.0; safe = f.0; listed = l.0; ends = e.0 }, each_askable gs body scope s.1 f.1 l.1 e.1)
-each_askable gs (Guarded node xs guard test body) scope s f l e =
-    (record { scoped = s.0; safe = f.0; listed = l.0; ends = e.0 }, each_askable gs body (scope ++ xs) s.1 f.1 l.1 e.1)
-each_askable gs (EventuallyPlan node place low high body) scope s f l e =
-    (record { scoped = s.0; safe = f.0; listed = l.0; ends = e.0 }, each_askable gs body scope s.1 f.1 l.1 e.1)
-each_askable gs (AlwaysPlan node place low high body) scope s f l e =
-    (record { scoped = s.0; safe = f.0; listed = l.0; ends = e.0 }, each_askable gs body scope s.1 f.1 l.1 e.1)
-each_askable gs (UntilPlan node place low high left right) scope s f l e =
-    (record { scoped = s.0; safe = f.0; listed = l.0; ends = e.0 }, each_askable gs left scope s.1 f.1 l.1 e.1, each_askable gs right scope s.2 f.2 l.2 e.2)
-each_askable gs (NextPlan node place high body) scope s f l e =
-    (record { scoped = s.0; safe = f.0; listed = l.0; ends = e.0 }, each_askable gs body scope s.1 f.1 l.1 e.1)
+guard_fresh : (gs : List (Formula × List VarId)) → AllByRecursion GuardBindsFresh gs → (n : ℕ) (g : Formula × List VarId)
+    → slice_get gs n ≡ Some g → GuardBindsFresh g
+guard_fresh [] all n g is = absurd (none-some g is)
+guard_fresh (h ∷ gs) all zero g is = subst GuardBindsFresh (same_Some h g is) all.0
+guard_fresh (h ∷ gs) all (suc n) g is = guard_fresh gs all.1 n g is
 
-root_can : (guards : List (Formula × List VarId)) (plan : Plan) → IsWellFormed guards plan → CanEvaluatePlan guards plan no_values
-root_can guards plan formed = record {
+module _ (gs : List (Formula × List VarId)) (all : AllByRecursion GuardBindsFresh gs) where
+  node_fresh : (node : Plan) (scope : List VarId) → IsScopedNode node scope → IsListedNode gs node scope → BringsFresh node scope
+  node_fresh (CausePlan node place name terms) scope s l = tt
+  node_fresh (SuppressPlan node place name terms) scope s l = tt
+  node_fresh (Both node left right) scope s l = tt
+  node_fresh (Either node left right) scope s l = tt
+  node_fresh (TestOr node guard test body) scope s l = guard_fresh gs all guard (test, scope) l
+  node_fresh (Guarded node xs guard test body) scope s l = (guard_fresh gs all guard (test, scope) l, s.0)
+  node_fresh (EventuallyPlan node place low high body) scope s l = tt
+  node_fresh (AlwaysPlan node place low high body) scope s l = tt
+  node_fresh (UntilPlan node place low high left right) scope s l = tt
+  node_fresh (NextPlan node place high body) scope s l = tt
+
+  askable : (node : Plan) (scope : List VarId) → IsScopedNode node scope → IsSafeNode node scope → IsListedNode gs node scope
+      → EndsInTime node → IsAskable gs node scope
+  askable node scope s f l e = record { scoped = s; safe = f; listed = l; fresh = node_fresh node scope s l; ends = e }
+
+  each_askable : (plan : Plan) (scope : List VarId) → AtEach IsScopedNode plan scope → AtEach IsSafeNode plan scope
+      → AtEach (IsListedNode gs) plan scope → AtEach (λ node inner. EndsInTime node) plan scope → AtEach (IsAskable gs) plan scope
+  each_askable (CausePlan node place name terms) scope s f l e = askable (CausePlan node place name terms) scope s f l e
+  each_askable (SuppressPlan node place name terms) scope s f l e = askable (SuppressPlan node place name terms) scope s f l e
+  each_askable (Both node left right) scope s f l e =
+      (askable (Both node left right) scope s.0 f.0 l.0 e.0, each_askable left scope s.1 f.1 l.1 e.1, each_askable right scope s.2 f.2 l.2 e.2)
+  each_askable (Either node left right) scope s f l e =
+      (askable (Either node left right) scope s.0 f.0 l.0 e.0, each_askable left scope s.1 f.1 l.1 e.1, each_askable right scope s.2 f.2 l.2 e.2)
+  each_askable (TestOr node guard test body) scope s f l e =
+      (askable (TestOr node guard test body) scope s.0 f.0 l.0 e.0, each_askable body scope s.1 f.1 l.1 e.1)
+  each_askable (Guarded node xs guard test body) scope s f l e =
+      (askable (Guarded node xs guard test body) scope s.0 f.0 l.0 e.0, each_askable body (scope ++ xs) s.1 f.1 l.1 e.1)
+  each_askable (EventuallyPlan node place low high body) scope s f l e =
+      (askable (EventuallyPlan node place low high body) scope s.0 f.0 l.0 e.0, each_askable body scope s.1 f.1 l.1 e.1)
+  each_askable (AlwaysPlan node place low high body) scope s f l e =
+      (askable (AlwaysPlan node place low high body) scope s.0 f.0 l.0 e.0, each_askable body scope s.1 f.1 l.1 e.1)
+  each_askable (UntilPlan node place low high left right) scope s f l e =
+      (askable (UntilPlan node place low high left right) scope s.0 f.0 l.0 e.0, each_askable left scope s.1 f.1 l.1 e.1, each_askable right scope s.2 f.2 l.2 e.2)
+  each_askable (NextPlan node place high body) scope s f l e =
+      (askable (NextPlan node place high body) scope s.0 f.0 l.0 e.0, each_askable body scope s.1 f.1 l.1 e.1)
+
+root_can : (guards : List (Formula × List VarId)) → AllByRecursion GuardBindsFresh guards → (plan : Plan) → IsWellFormed guards plan
+    → CanEvaluatePlan guards plan no_values
+root_can guards fresh plan formed = record {
   scope = [];
-  can = each_askable guards plan [] formed.scoped formed.safe formed.listed (AtEach-from_nodes EndsInTime plan [] formed.ends);
+  can = each_askable guards fresh plan [] formed.scoped formed.safe formed.listed (AtEach-from_nodes EndsInTime plan [] formed.ends);
   fits = record { binds = λ x there. absurd (none_in_nil x there); only = λ x absent. finite.get-empty variable_cmp x };
 }
 
@@ -61,7 +84,7 @@ pub roots_can : (guards : List BoundFormula) (placed : List PlacedGuard) (plans 
 roots_can guards placed plans copies formed =
     subst (λ gs. AllByRecursion (λ plan. CanEvaluatePlan gs plan no_values) plans) (same_guards guards placed copies)
     (AllByRecursion-weaker (IsWellFormed (guards_of guards)) (λ plan. CanEvaluatePlan (guards_of guards) plan no_values) plans
-    (root_can (guards_of guards)) formed.each)
+    (root_can (guards_of guards) formed.fresh) formed.each)
 
 -- ---- the step in a longer trace
 
@@ -166,13 +189,11 @@ judged_now auditor trace audits =
     subst (λ l. AreJudged (audited_rules auditor) l (end_of trace) auditor.asked auditor.broken) (append-nil trace)
     (audits.judged [] (subst IsTrace (sym (append-nil trace)) audits.is_trace))
 
-module _ (auditor : Auditing) (first : Option RuleAt) (seen : List OpenRule) (is : seen ≡ auditor.asked)
-    (finds : (policy : List Formula) (trace : List Step) (end : RuleAt) → IsJudged policy trace (length trace) end NothingElse seen auditor.broken
+module _ (auditor : Auditing) (first : Option RuleAt)
+    (finds : (policy : List Formula) (trace : List Step) (end : RuleAt) → IsJudged policy trace (length trace) end NothingElse auditor.asked auditor.broken
     → IsJudged policy trace (length trace) end NothingElse [] first) where
   found : (trace : List Step) → Audits auditor trace → IsVerdictBy (audited_rules auditor) trace first
-  found trace audits = finds (audited_rules auditor) trace (end_of trace)
-      (subst (λ asked. IsJudged (audited_rules auditor) trace (length trace) (end_of trace) NothingElse asked auditor.broken) (sym is)
-      (judged_now auditor trace audits))
+  found trace audits = finds (audited_rules auditor) trace (end_of trace) (judged_now auditor trace audits)
 
   pub verdict_holds : first ≡ None → (trace : List Step) → Audits auditor trace → IsVerdict (audited_rules auditor) trace Holds
   verdict_holds none trace audits =

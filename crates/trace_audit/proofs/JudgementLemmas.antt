@@ -1,9 +1,10 @@
 -- What is known of rules at positions, as one after another is settled.
-use Rattle.trace_audit.proofs.Vocabulary.{◌≡◌, ℕ, ◌+◌, List, [], ◌∷◌, ◌++◌, length, Option, None, Some, refl, sym, ap, subst, arith, inl, inr, ⊎_elim, ◌⊎◌, ◌∙◌, ◌↔◌, slice_get, AllByRecursion}
-use Rattle.trace_audit.proofs.Vocabulary.{cases_lt, Contains-append_left, Contains-append_right, option_map, length-map, same_Some, slice_get-map, slice_get_within, AllByRecursion-append}
-use Rattle.trace_audit.proofs.Vocabulary.{AllByRecursion-of_append, AllByRecursion-weaker, first_or_later, here, none_in_nil, no_values, Step, VarId, Formula, Sat, formula_for, Plan, formulas_for}
-use Rattle.trace_audit.proofs.Vocabulary.{NothingElse, RulesAreMet, BeginsRules, RulesCanGoOn, FollowsAsked, FollowsOneAsked, IsRuleBefore, IsRuleBeforeAny, IsJudged, IsAskedFor, PutsIn, JudgesStep}
-use Rattle.trace_audit.proofs.Vocabulary.{asked_at, rule_at, IsAt, AuditMoment, TellsRest, ResidualCanGoOn, PlanHoldsAt, Means, IsBroken, Followed, OpenRule, Residual, RuleAt}
+use Rattle.trace_audit.proofs.Vocabulary.{◌≡◌, ℕ, ◌+◌, List, [], ◌∷◌, ◌++◌, length, Option, None, Some, refl, sym, ap, subst, arith, inl, inr, ⊎_elim, ◌⊎◌, ◌∙◌, ◌↔◌, slice_get, cases_lt, option_map}
+use Rattle.trace_audit.proofs.Vocabulary.{length-map, same_Some, slice_get-map, slice_get_within, AllByRecursion-weaker, first_or_later, none_in_nil, no_values, Step, VarId, Formula, Sat}
+use Rattle.trace_audit.proofs.Vocabulary.{formula_for, Plan, formulas_for, NothingElse, RulesAreMet, BeginsRules, RulesCanGoOn, FollowsAsked, FollowsOneAsked, IsRuleBefore, IsRuleBeforeAny}
+use Rattle.trace_audit.proofs.Vocabulary.{IsJudged, IsAskedFor, PutsIn, JudgesStep, asked_at, rule_at, IsAt, AuditMoment, TellsRest, ResidualCanGoOn, PlanHoldsAt, Means, IsBroken, Followed}
+use Rattle.trace_audit.proofs.Vocabulary.{OpenRule, Residual, RuleAt, Contains, Result, Ok, Err, OnOk, OnErr, AllByRecursion-contains, AllByRecursion-from_contains, HasOneMoreRule, AreAmongRules}
+use Rattle.trace_audit.proofs.Vocabulary.{TakesAwake, IsFirstWith, option_to_list, guards_at}
 use Rattle.trace_audit.specs.declared.residuals.Residual.TheVariants as stored
 
 -- ---- the order
@@ -65,39 +66,43 @@ module _ (policy : List Formula) (trace : List Step) (from : ℕ) where
     }
 
     -- it is asked
-    pub claim_asked : (asked : List OpenRule) (broken : Option RuleAt) (rest : Residual) → IsAskedFor policy trace from end (asked_at at rest)
-        → (Means trace from rest → P) → Judged WithClaim asked broken → Judged Rest (asked ++ asked_at at rest ∷ []) broken
-    claim_asked asked broken rest is tells judged = record {
-      items = AllByRecursion-append (IsAskedFor policy trace from end) asked (asked_at at rest ∷ []) judged.items (is, tt);
+    pub claim_asked : (asked more : List OpenRule) (broken : Option RuleAt) (rest : Residual) → HasOneMoreRule (asked_at at rest) asked more
+        → IsAskedFor policy trace from end (asked_at at rest)
+        → (Means trace from rest → P) → Judged WithClaim asked broken → Judged Rest more broken
+    claim_asked asked more broken rest one is tells judged = record {
+      items = AllByRecursion-from_contains (IsAskedFor policy trace from end) more (λ item there. ⊎_elim
+          (λ same. subst (IsAskedFor policy trace from end) (sym same) is)
+          (λ old. AllByRecursion-contains (IsAskedFor policy trace from end) asked item judged.items old)
+          (one.only item there));
       failed = judged.failed;
       others = λ other rule of_rule before any met others. judged.others other rule of_rule before any
-          (λ item there same. met item (Contains-append_left asked (asked_at at rest ∷ []) item there) same)
-          (others, λ same. tells (met (asked_at at rest) (Contains-append_right asked (asked_at at rest ∷ []) (asked_at at rest) (here (asked_at at rest) [])) same));
+          (λ item there same. met item (one.kept item there) same)
+          (others, λ same. tells (met (asked_at at rest) one.there same));
     }
 
     put_asked : (rule : Formula) (rest : Residual) (before after : Followed) → slice_get policy at.rule ≡ Some rule
         → IsRuleBefore at end → P ↔ Sat trace at.position no_values rule → P ↔ Means trace from rest
-        → (after.asked.items ≡ before.asked.items ++ asked_at at rest ∷ []) × (after.broken ≡ before.broken)
-        → Judged WithClaim before.asked.items before.broken → Judged Rest after.asked.items after.broken
+        → HasOneMoreRule (asked_at at rest) before.asked after.asked × (after.broken ≡ before.broken)
+        → Judged WithClaim before.asked before.broken → Judged Rest after.asked after.broken
     put_asked rule rest before after of_rule early sat means puts judged =
-        subst (Judged Rest after.asked.items) (sym puts.1) (subst (λ items. Judged Rest items before.broken) (sym puts.0)
-        (claim_asked before.asked.items before.broken rest (record {
+        subst (Judged Rest after.asked) (sym puts.1)
+        (claim_asked before.asked after.asked before.broken rest puts.0 (record {
           rule = rule;
           of_rule = of_rule;
           before = early;
           means = (λ m. sat.0 (means.1 m), λ holds. means.0 (sat.1 holds));
-        }) means.1 judged))
+        }) means.1 judged)
 
     -- what is asked for it is put in
     pub claim_put : (rule : Formula) (rest : Residual) (before after : Followed) → slice_get policy at.rule ≡ Some rule
         → IsRuleBefore at end → IsRuleBeforeAny at before.broken → P ↔ Sat trace at.position no_values rule
-        → P ↔ Means trace from rest → PutsIn at rest before after → Judged WithClaim before.asked.items before.broken
-        → Judged Rest after.asked.items after.broken
+        → P ↔ Means trace from rest → PutsIn at rest before after → Judged WithClaim before.asked before.broken
+        → Judged Rest after.asked after.broken
     claim_put rule stored.Met before after of_rule early first sat means puts judged =
-        subst (λ (a : Followed). Judged Rest a.asked.items a.broken) (sym puts) (claim_met before.asked.items before.broken (means.1 tt) judged)
+        subst (λ (a : Followed). Judged Rest a.asked a.broken) (sym puts) (claim_met before.asked before.broken (means.1 tt) judged)
     claim_put rule stored.Failed before after of_rule early first sat means puts judged =
-        subst (λ (a : Followed). Judged Rest a.asked.items a.broken) (sym puts)
-        (claim_failed before.asked.items before.broken early first (rule, of_rule, λ holds. means.0 (sat.1 holds)) judged)
+        subst (λ (a : Followed). Judged Rest a.asked a.broken) (sym puts)
+        (claim_failed before.asked before.broken early first (rule, of_rule, λ holds. means.0 (sat.1 holds)) judged)
     claim_put rule (stored.Waits w) before after of_rule early first sat means puts judged =
         put_asked rule (stored.Waits w) before after of_rule early sat means puts judged
     claim_put rule (stored.Chain' shape links) before after of_rule early first sat means puts judged =
@@ -151,46 +156,58 @@ module _ (now : AuditMoment) where
   follow_item item rest before after tells first puts = λ policy trace end left is of judged.
       claim_put policy trace (now.position + 1) end (RulesAreMet trace now.position left) item.at (Means trace now.position item.rest)
       of.rule rest before after of.of_rule of.before first of.means (tells.means trace is) puts
-      (with_first policy trace (now.position + 1) now.position end item left before.asked.items before.broken judged)
+      (with_first policy trace (now.position + 1) now.position end item left before.asked before.broken judged)
 
   pub follow_behind : (item : OpenRule) (followed : Followed) → (IsRuleBeforeAny item.at followed.broken → ⊥)
       → FollowsOneAsked now item followed followed
   follow_behind item followed behind = λ policy trace end left is of judged.
       claim_behind policy trace (now.position + 1) end (RulesAreMet trace now.position left) item.at (Means trace now.position item.rest)
-      followed.asked.items followed.broken behind
-      (with_first policy trace (now.position + 1) now.position end item left followed.asked.items followed.broken judged)
+      followed.asked followed.broken behind
+      (with_first policy trace (now.position + 1) now.position end item left followed.asked followed.broken judged)
 
   -- where these of what was asked are still to be followed
   abbrev pub FollowsOn : (asked : List OpenRule) (broken : Option RuleAt) → (left : List OpenRule) → Followed → Type 0
   FollowsOn asked broken left followed = (policy : List Formula) (trace : List Step) (end : RuleAt) → IsAt now trace
       → IsJudged policy trace now.position end NothingElse asked broken
-      → IsJudged policy trace (now.position + 1) end (RulesAreMet trace now.position left) followed.asked.items followed.broken
+      → IsJudged policy trace (now.position + 1) end (RulesAreMet trace now.position left) followed.asked followed.broken
 
   module _ (asked : List OpenRule) (broken : Option RuleAt) where
-    pub follows_first : (followed : Followed) → followed.asked.items ≡ [] → followed.broken ≡ broken
-        → FollowsOn asked broken asked followed
-    follows_first followed none same = λ policy trace end is judged.
-        subst (λ items. IsJudged policy trace (now.position + 1) end (RulesAreMet trace now.position asked) items followed.broken) (sym none)
-        (subst (IsJudged policy trace (now.position + 1) end (RulesAreMet trace now.position asked) []) (sym same) (record {
-          items = tt;
+    -- at first those that are awake are still to be followed, and what is asked for the others stays
+    pub follows_first : (awake : List OpenRule) (followed : Followed) → RulesCanGoOn (guards_at now.tables) asked
+        → TakesAwake now asked awake followed.asked → followed.broken ≡ broken → FollowsOn asked broken awake followed
+    follows_first awake followed can takes same = λ policy trace end is judged.
+        let stays = λ (item : OpenRule) (there : Contains followed.asked item). takes.stay item there trace is
+        (AllByRecursion-contains (λ (o : OpenRule). ResidualCanGoOn (guards_at now.tables) o.rest) asked item can (takes.left_among item there)) in
+        subst (IsJudged policy trace (now.position + 1) end (RulesAreMet trace now.position awake) followed.asked) (sym same) (record {
+          items = AllByRecursion-from_contains (IsAskedFor policy trace (now.position + 1) end) followed.asked (λ item there.
+              let of = AllByRecursion-contains (IsAskedFor policy trace now.position end) asked item judged.items (takes.left_among item there) in record {
+                rule = of.rule;
+                of_rule = of.of_rule;
+                before = of.before;
+                means = (λ m. of.means.0 ((stays item there).1 m), λ holds. (stays item there).0 (of.means.1 holds));
+              });
           failed = judged.failed;
-          others = λ at rule of_rule before any met rest. judged.others at rule of_rule before any rest tt;
-        }))
+          others = λ at rule of_rule before any met rest. judged.others at rule of_rule before any
+              (λ item there at_it. ⊎_elim
+              (λ one. rest item one at_it)
+              (λ left. (stays item left).1 (met item left at_it))
+              (takes.every item there)) tt;
+        })
 
-    pub follows_next : (done : List OpenRule) (item : OpenRule) (left : List OpenRule) (before after : Followed)
-        → asked ≡ done ++ item ∷ left → FollowsOn asked broken (item ∷ left) before → FollowsOneAsked now item before after
+    -- what was awake was asked before
+    pub follows_next : (item : OpenRule) (left : List OpenRule) (before after : Followed)
+        → Contains asked item → FollowsOn asked broken (item ∷ left) before → FollowsOneAsked now item before after
         → FollowsOn asked broken left after
-    follows_next done item left before after split on one = λ policy trace end is judged.
-        let all = subst (AllByRecursion (IsAskedFor policy trace now.position end)) split judged.items in
-        let of = (AllByRecursion-of_append (IsAskedFor policy trace now.position end) done (item ∷ left) all).1.0 in
-        one policy trace end left is of (on policy trace end is judged)
+    follows_next item left before after there on one = λ policy trace end is judged.
+        one policy trace end left is (AllByRecursion-contains (IsAskedFor policy trace now.position end) asked item judged.items there)
+        (on policy trace end is judged)
 
     pub follows_all : (followed : Followed) → FollowsOn asked broken [] followed → (policy : List Formula) (trace : List Step)
         (end : RuleAt) → IsAt now trace → IsJudged policy trace now.position end NothingElse asked broken
-        → IsJudged policy trace (now.position + 1) end NothingElse followed.asked.items followed.broken
+        → IsJudged policy trace (now.position + 1) end NothingElse followed.asked followed.broken
     follows_all followed on = λ policy trace end is judged.
         judged_weaker policy trace (now.position + 1) end (RulesAreMet trace now.position []) NothingElse
-        (λ at anything item there same. absurd (none_in_nil item there)) followed.asked.items followed.broken
+        (λ at anything item there same. absurd (none_in_nil item there)) followed.asked followed.broken
         (on policy trace end is judged)
 
   -- ---- and so is each rule at the step
@@ -223,7 +240,7 @@ module _ (now : AuditMoment) where
         (formula_for plan) rest between after of_rule (inr (refl, omega arith)) first (λ h. h, λ h. h) (tells.means trace is) puts
         (judged_further formulas trace (now.position + 1) (here_at count) (here_at (count + 1)) NothingElse
         (WithClaim formulas trace (now.position + 1) (here_at (count + 1)) NothingElse (here_at count) holds)
-        between.asked.items between.broken (below_next count) (λ at claim. tt)
+        between.asked between.broken (below_next count) (λ at claim. tt)
         (λ at rule is_rule early any claims. ⊎_elim
         (λ below. inl below)
         (λ same. let said : Sat trace now.position no_values (formula_for plan) = claims.1 same in
@@ -242,13 +259,19 @@ FindsFirst asked broken left first = (policy : List Formula) (trace : List Step)
     → IsJudged policy trace (length trace) end (RulesAreMet trace (length trace) left) [] first
 
 module _ (asked : List OpenRule) (broken : Option RuleAt) where
-  pub finds_it : (done : List OpenRule) (item : OpenRule) (left : List OpenRule) (first : Option RuleAt) → asked ≡ done ++ item ∷ left
+  pub finds_begin : FindsFirst asked broken asked broken
+  finds_begin = λ policy trace end judged. record {
+    items = tt;
+    failed = judged.failed;
+    others = λ at rule of_rule before any met rest. judged.others at rule of_rule before any rest tt;
+  }
+
+  pub finds_it : (item : OpenRule) (left : List OpenRule) (first : Option RuleAt) → Contains asked item
       → FindsFirst asked broken (item ∷ left) first → IsRuleBeforeAny item.at first
       → ((trace : List Step) → Means trace (length trace) item.rest → ⊥)
       → FindsFirst asked broken left (Some item.at)
-  finds_it done item left first split finds before fails = λ policy trace end judged.
-      let all = subst (AllByRecursion (IsAskedFor policy trace (length trace) end)) split judged.items in
-      let of = (AllByRecursion-of_append (IsAskedFor policy trace (length trace) end) done (item ∷ left) all).1.0 in
+  finds_it item left first there finds before fails = λ policy trace end judged.
+      let of = AllByRecursion-contains (IsAskedFor policy trace (length trace) end) asked item judged.items there in
       claim_failed policy trace (length trace) end (RulesAreMet trace (length trace) left) item.at (Means trace (length trace) item.rest)
       [] first of.before before (of.rule, of.of_rule, λ holds. fails trace (of.means.1 holds))
       (with_first policy trace (length trace) (length trace) end item left [] first (finds policy trace end judged))
@@ -265,6 +288,18 @@ module _ (asked : List OpenRule) (broken : Option RuleAt) where
       claim_behind policy trace (length trace) end (RulesAreMet trace (length trace) left) item.at (Means trace (length trace) item.rest)
       [] first behind (with_first policy trace (length trace) (length trace) end item left [] first (finds policy trace end judged))
 
+  -- what stands in a slot is looked at
+  pub finds_slot : (slot : Option OpenRule) (left : List OpenRule) (first after : Option RuleAt)
+      → ((item : OpenRule) → slot ≡ Some item → Contains asked item) → FindsFirst asked broken (option_to_list slot ++ left) first
+      → IsFirstWith slot first after → FindsFirst asked broken left after
+  finds_slot None left first after there finds same = subst (FindsFirst asked broken left) (sym same) finds
+  finds_slot (Some item) left first after there finds (inl it) =
+      subst (FindsFirst asked broken left) (sym it.0) (finds_it item left first (there item refl) finds it.1 it.2)
+  finds_slot (Some item) left first after there finds (inr (same, inl behind)) =
+      subst (FindsFirst asked broken left) (sym same) (finds_behind item left first finds behind)
+  finds_slot (Some item) left first after there finds (inr (same, inr met)) =
+      subst (FindsFirst asked broken left) (sym same) (finds_met item left first finds met)
+
   pub finds_all : (first : Option RuleAt) → FindsFirst asked broken [] first → (policy : List Formula) (trace : List Step) (end : RuleAt)
       → IsJudged policy trace (length trace) end NothingElse asked broken
       → IsJudged policy trace (length trace) end NothingElse [] first
@@ -272,13 +307,19 @@ module _ (asked : List OpenRule) (broken : Option RuleAt) where
       judged_weaker policy trace (length trace) end (RulesAreMet trace (length trace) []) NothingElse
       (λ at anything item there same. absurd (none_in_nil item there)) [] first (finds policy trace end judged)
 
+-- where nothing stands in the slot
+pub none_first : (slot : Option OpenRule) (broken : Option RuleAt) → ((item : OpenRule) → slot ≡ Some item → ⊥)
+    → IsFirstWith slot broken broken
+none_first None broken never = refl
+none_first (Some item) broken never = absurd (never item refl)
+
 -- ---- a whole step
 
 pub takes_step : (now : AuditMoment) (plans : List Plan) (before between after : Followed) → FollowsAsked now before between
     → BeginsRules now plans (length plans) between after → JudgesStep now plans before after
 takes_step now plans before between after follows begins = λ trace is judged.
     judged_further (formulas_for plans) trace (now.position + 1) (rule_at (length plans) now.position) (rule_at 0 (now.position + 1)) NothingElse NothingElse
-    after.asked.items after.broken more (λ at any. tt) (λ at rule of early any others. inl (up_to at rule of early))
+    after.asked after.broken more (λ at any. tt) (λ at rule of early any others. inl (up_to at rule of early))
     (begins trace is (follows (formulas_for plans) trace (rule_at 0 now.position) is judged))
   where
     more : (at : RuleAt) → IsRuleBefore at (rule_at (length plans) now.position) → IsRuleBefore at (rule_at 0 (now.position + 1))
@@ -300,16 +341,33 @@ none_left [] none = refl
 none_left (x ∷ xs) none = absurd (omega (arith, none))
 
 can_more : (guards : List (Formula × List VarId)) (at : RuleAt) (rest : Residual) (before after : Followed) → ResidualCanGoOn guards rest
-    → after.asked.items ≡ before.asked.items ++ asked_at at rest ∷ [] → RulesCanGoOn guards before.asked.items
-    → RulesCanGoOn guards after.asked.items
-can_more guards at rest before after can grown all = subst (RulesCanGoOn guards) (sym grown)
-    (AllByRecursion-append (λ (item : OpenRule). ResidualCanGoOn guards item.rest) before.asked.items (asked_at at rest ∷ []) all (can, tt))
+    → HasOneMoreRule (asked_at at rest) before.asked after.asked → RulesCanGoOn guards before.asked
+    → RulesCanGoOn guards after.asked
+can_more guards at rest before after can one all =
+    AllByRecursion-from_contains (λ (o : OpenRule). ResidualCanGoOn guards o.rest) after.asked (λ item there. ⊎_elim
+    (λ same. subst (λ (o : OpenRule). ResidualCanGoOn guards o.rest) (sym same) can)
+    (λ old. AllByRecursion-contains (λ (o : OpenRule). ResidualCanGoOn guards o.rest) before.asked item all old)
+    (one.only item there))
+
+-- what is among what can be followed can be
+pub can_among : (guards : List (Formula × List VarId)) (all some : List OpenRule) → AreAmongRules all some → RulesCanGoOn guards all
+    → RulesCanGoOn guards some
+can_among guards all some among can =
+    AllByRecursion-from_contains (λ (item : OpenRule). ResidualCanGoOn guards item.rest) some
+    (λ item there. AllByRecursion-contains (λ (o : OpenRule). ResidualCanGoOn guards o.rest) all item can (among item there))
 
 -- what was put in can be followed
 pub can_put : (guards : List (Formula × List VarId)) (at : RuleAt) (rest : Residual) (before after : Followed) → ResidualCanGoOn guards rest
-    → PutsIn at rest before after → RulesCanGoOn guards before.asked.items → RulesCanGoOn guards after.asked.items
-can_put guards at stored.Met before after can puts all = subst (λ (a : Followed). RulesCanGoOn guards a.asked.items) (sym puts) all
-can_put guards at stored.Failed before after can puts all = subst (λ (a : Followed). RulesCanGoOn guards a.asked.items) (sym puts) all
+    → PutsIn at rest before after → RulesCanGoOn guards before.asked → RulesCanGoOn guards after.asked
+can_put guards at stored.Met before after can puts all = subst (λ (a : Followed). RulesCanGoOn guards a.asked) (sym puts) all
+can_put guards at stored.Failed before after can puts all = subst (λ (a : Followed). RulesCanGoOn guards a.asked) (sym puts) all
 can_put guards at (stored.Waits w) before after can puts all = can_more guards at (stored.Waits w) before after can puts.0 all
 can_put guards at (stored.Chain' shape links) before after can puts all =
     can_more guards at (stored.Chain' shape links) before after can puts.0 all
+
+-- and what is open after a call that may fail
+pub can_after : {T E : Type 0} (guards : List (Formula × List VarId)) (at : RuleAt) (rest : Residual) (before after : Followed) (r : Result T E)
+    → OnOk r (PutsIn at rest before after) → OnErr r (after.asked ≡ before.asked) → ResidualCanGoOn guards rest
+    → RulesCanGoOn guards before.asked → RulesCanGoOn guards after.asked
+can_after guards at rest before after (Ok x) puts same can all = can_put guards at rest before after can puts all
+can_after guards at rest before after (Err e) puts same can all = subst (RulesCanGoOn guards) (sym same) all

@@ -5,4 +5,6 @@ pub mod EvaluationLemmas
 pub mod JudgementLemmas
 pub mod LawLemmas
 pub mod ResidualLemmas
+pub mod SlotLemmas
+pub mod WakingLemmas
 pub mod WindowLemmas

@@ -83,6 +83,39 @@ module _ (classical : IsClassical) (now : AuditMoment) (trace : List Step) (is :
           (λ most. subst (PlanHoldsAt trace v left) {x = here} {y = k} (omega (arith, most, from)) holds)
           (cases_lt here k)
 
+      -- where the present decides nothing, what is asked stays
+
+      pub eventually_stays : (body : Plan) → (PlanHoldsAt trace v body here → ⊥)
+          → OperatorAsks trace here (EventuallyPlan node place a b body) v low high ↔ OperatorAsks trace (here + 1) (EventuallyPlan node place a b body) v low high
+      eventually_stays body fails = (
+        λ asks never. asks (λ met. ⊎_elim
+            (λ same. fails (subst (PlanHoldsAt trace v body) (sym same) met.2))
+            (λ later. never (met.0, later, met.2))
+            (now_or_behind met.0 met.1)),
+        λ asks never. asks (λ met. never (met.0, behind met.0 met.1, met.2)),
+      )
+
+      pub always_stays : (body : Plan) → PlanHoldsAt trace v body here
+          → OperatorAsks trace here (AlwaysPlan node place a b body) v low high ↔ OperatorAsks trace (here + 1) (AlwaysPlan node place a b body) v low high
+      always_stays body holds = (
+        λ asks j left. asks j (behind j left),
+        λ asks j left. ⊎_elim
+            (λ same. subst (PlanHoldsAt trace v body) same holds)
+            (λ later. asks j later)
+            (now_or_behind j left),
+      )
+
+      pub until_stays : (left right : Plan) → (PlanHoldsAt trace v right here → ⊥) → PlanHoldsAt trace v left here
+          → OperatorAsks trace here (UntilPlan node place a b left right) v low high
+          ↔ OperatorAsks trace (here + 1) (UntilPlan node place a b left right) v low high
+      until_stays left right fails holds = (
+        λ asks never. asks (λ met. ⊎_elim
+            (λ same. fails (subst (PlanHoldsAt trace v right) (sym same) met.2))
+            (λ later. never (met.0, later, met.2, λ k from before. met.3 k (omega (arith, from)) before))
+            (now_or_behind met.0 met.1)),
+        λ asks never. asks (λ met. never (met.0, behind met.0 met.1, met.2, left_before left met.0 holds met.3)),
+      )
+
       pub until_early : (left right : Plan) → now.time < low
           → OperatorAsks trace here (UntilPlan node place a b left right) v low high
           ↔ (PlanHoldsAt trace v left here × OperatorAsks trace (here + 1) (UntilPlan node place a b left right) v low high)

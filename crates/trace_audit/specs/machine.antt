@@ -1,6 +1,8 @@
 pub mod AskablePlans
 pub mod Residuals
 pub mod Moments
+pub mod Waiting
+pub mod OpenRules
 pub mod Judgements
 pub mod Auditors
 pub mod Cases

@@ -9,6 +9,7 @@ ghost use Rattle.trace_audit.specs.meaning.Verdicts.{IsVerdict};
 ghost use Rattle.plan_terms.specs.machine.StoredPlans.{formulas_for};
 
 use crate::followed_rules::{Followed, first_broken, follow_step};
+use crate::open_rules::OpenRules;
 use crate::verdicts::{RuleAt, Verdict};
 use enf_data::event_sets::EventSet;
 use enf_data::memory::NoMemory;
@@ -57,7 +58,7 @@ impl<'p> Model for Auditor<'p> {
       past = a.past;
       position = a.position;
       last = a.last;
-      asked = a.followed.asked.items;
+      asked = a.followed.asked;
       broken = a.followed.broken;
     } };
 
@@ -66,7 +67,7 @@ impl<'p> Model for Auditor<'p> {
       past = a.past;
       position = a.position;
       last = a.last;
-      asked = a.followed.asked.items;
+      asked = a.followed.asked;
       broken = a.followed.broken;
     }) };
 }
@@ -84,7 +85,7 @@ impl<'p> Auditor<'p> {
             position: 0,
             last: 0,
             followed: Followed {
-                asked: Vec::new(alloc),
+                asked: OpenRules::new(alloc),
                 broken: None,
             },
         })
@@ -125,7 +126,7 @@ impl<'p> Auditor<'p> {
     pub fn verdict(&self) -> Verdict
         ensures { (trace : List Step) → Audits self.now trace → IsVerdict (audited_rules self.now) trace result }
     {
-        match first_broken(self.followed.asked.as_slice(), self.followed.broken) {
+        match first_broken(&self.followed.asked, self.followed.broken) {
             None => Verdict::Holds,
             Some(RuleAt { rule, position }) => Verdict::Fails { rule, position },
         }

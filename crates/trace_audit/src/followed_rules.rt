@@ -10,13 +10,15 @@ ghost use Rattle.trace_meaning.specs.meaning.Traces.{most_time};
 ghost use Rattle.trace_meaning.specs.declared.kinds.StepKind.TheVariants.{Inserted};
 ghost use Rattle.trace_audit.specs.machine.AskablePlans.{CanEvaluatePlan};
 ghost use Rattle.trace_audit.specs.machine.Judgements.{NothingElse, BeginsRules, RulesCanGoOn, FollowsAsked};
-ghost use Rattle.trace_audit.specs.machine.Judgements.{FollowsOneAsked, IsRuleBeforeAny, IsJudged, PutsIn, JudgesStep};
+ghost use Rattle.trace_audit.specs.machine.Judgements.{FollowsOneAsked, IsFirstWith, IsRuleBeforeAny, IsJudged};
+ghost use Rattle.trace_audit.specs.machine.Judgements.{JudgesStep, PutsIn};
 ghost use Rattle.past_state.specs.machine.GuardPlaces.{guards_at};
 ghost use Rattle.trace_audit.specs.machine.Moments.{audit_moment, moment_of};
 ghost use Rattle.trace_audit.specs.machine.Residuals.{ResidualCanGoOn};
 ghost use Rattle.trace_audit.specs.declared.verdicts.RuleAt.{RuleAt as AnyRuleAt};
 
 use crate::evaluation::{evaluate, progress};
+use crate::open_rules::{OpenRule, OpenRules};
 use crate::present_step::Present;
 use crate::residuals::{Residual, is_met_at_end};
 use crate::verdicts::RuleAt;
@@ -25,20 +27,12 @@ use monitorable_guard::StepEvents;
 use past_state::Tables;
 use plan_terms::Plan;
 use std::alloc::Global;
-use std::mem::replace;
 use valuations::{Frame, Valuation};
-
-// What is still asked for a rule at a position.
-#[derive(Drop)]
-pub struct OpenRule<'p> {
-    pub at: RuleAt,
-    pub rest: Residual<'p>,
-}
 
 // What is still asked, and the first rule that is known to be broken.
 #[derive(Drop)]
 pub struct Followed<'p> {
-    pub asked: Vec<OpenRule<'p>>,
+    pub asked: OpenRules<'p>,
     pub broken: Option<RuleAt>,
 }
 
@@ -54,19 +48,19 @@ fn is_before(at: RuleAt, other: Option<RuleAt>) -> bool
     }
 }
 
-// Follows what is open over the step. What comes after a broken rule need not be followed.
+// Follows what is open over the step: what sleeps stays as it is. What comes after a broken rule need not be followed.
 fn follow_each<'p>(
     alloc: Global,
     now: &Present<'_>,
     followed: &mut Followed<'p>,
 ) -> Result<(), NoMemory>
-    requires can { RulesCanGoOn (guards_at now.now.tables.now) followed.old.asked.items }
+    requires can { RulesCanGoOn (guards_at now.now.tables.now) followed.old.asked }
     requires in_time { now.now.time ≤ most_time Inserted }
     ensures follows { OnOk result (FollowsAsked (moment_of now.now) followed.old followed.new) }
-    ensures can { RulesCanGoOn (guards_at now.now.tables.now) followed.new.asked.items }
+    ensures can { RulesCanGoOn (guards_at now.now.tables.now) followed.new.asked }
 {
-    let asked = replace(&mut followed.asked, Vec::new(alloc));
-    for item in asked {
+    let awake = followed.asked.take_awake(alloc, now)?;
+    for item in awake {
         follow(alloc, item, now, followed)?;
     }
     Ok(())
@@ -79,26 +73,31 @@ fn follow<'p>(
     followed: &mut Followed<'p>,
 ) -> Result<(), NoMemory>
     requires can { ResidualCanGoOn (guards_at now.now.tables.now) item.rest }
-    requires others { RulesCanGoOn (guards_at now.now.tables.now) followed.old.asked.items }
+    requires others { RulesCanGoOn (guards_at now.now.tables.now) followed.old.asked }
     requires in_time { now.now.time ≤ most_time Inserted }
     ensures follows { OnOk result (FollowsOneAsked (moment_of now.now) item.entry followed.old followed.new) }
-    ensures can { RulesCanGoOn (guards_at now.now.tables.now) followed.new.asked.items }
+    ensures can { RulesCanGoOn (guards_at now.now.tables.now) followed.new.asked }
 {
     if !is_before(item.at, followed.broken) {
         return Ok(());
     }
     let rest = progress(alloc, item.rest, now)?;
-    put_in(item.at, rest, followed)
+    put_in(alloc, item.at, rest, followed)
 }
 
-fn put_in<'p>(at: RuleAt, rest: Residual<'p>, followed: &mut Followed<'p>) -> Result<(), NoMemory>
+fn put_in<'p>(
+    alloc: Global,
+    at: RuleAt,
+    rest: Residual<'p>,
+    followed: &mut Followed<'p>,
+) -> Result<(), NoMemory>
     ensures ok { OnOk result (PutsIn at rest.entry followed.old followed.new) }
-    ensures err { OnErr result (followed.new.asked.items ≡ followed.old.asked.items) }
+    ensures err { OnErr result (followed.new.asked ≡ followed.old.asked) }
 {
     match rest {
         Residual::Met => {}
         Residual::Failed => followed.broken = Some(at),
-        rest => followed.asked.push(OpenRule { at, rest })?,
+        rest => followed.asked.put(alloc, OpenRule { at, rest })?,
     }
     Ok(())
 }
@@ -113,11 +112,11 @@ fn begin_each<'p>(
     requires roots { AllByRecursion (λ plan. CanEvaluatePlan (guards_at now.now.tables.now) plan no_values)
         (map plan_of plans.now) }
     requires few { length plans.now ≤ 2 ^ 32 }
-    requires others { RulesCanGoOn (guards_at now.now.tables.now) followed.old.asked.items }
+    requires others { RulesCanGoOn (guards_at now.now.tables.now) followed.old.asked }
     requires in_time { now.now.time ≤ most_time Inserted }
     ensures begins { OnOk result (BeginsRules (moment_of now.now) (map plan_of plans.now) (length plans.now)
         followed.old followed.new) }
-    ensures can { RulesCanGoOn (guards_at now.now.tables.now) followed.new.asked.items }
+    ensures can { RulesCanGoOn (guards_at now.now.tables.now) followed.new.asked }
 {
     let none = Valuation::empty(alloc);
     for (rule, plan) in plans.iter().enumerate() {
@@ -129,7 +128,7 @@ fn begin_each<'p>(
             return Ok(());
         }
         let rest = evaluate(alloc, plan, &Frame::Whole(&none), now)?;
-        put_in(at, rest, followed)?;
+        put_in(alloc, at, rest, followed)?;
     }
     Ok(())
 }
@@ -147,11 +146,11 @@ pub fn follow_step<'p>(
     requires roots { AllByRecursion (λ plan. CanEvaluatePlan (guards_at tables.now) plan no_values)
         (map plan_of plans.now) }
     requires few { length plans.now ≤ 2 ^ 32 }
-    requires can { RulesCanGoOn (guards_at tables.now) followed.old.asked.items }
+    requires can { RulesCanGoOn (guards_at tables.now) followed.old.asked }
     requires in_time { time ≤ most_time Inserted }
     ensures takes { OnOk result (JudgesStep (audit_moment time position events.now tables.now) (map plan_of plans.now)
         followed.old followed.new) }
-    ensures can { RulesCanGoOn (guards_at tables.now) followed.new.asked.items }
+    ensures can { RulesCanGoOn (guards_at tables.now) followed.new.asked }
 {
     let now = Present {
         time,
@@ -163,17 +162,31 @@ pub fn follow_step<'p>(
     begin_each(alloc, plans, &now, followed)
 }
 
+// The first of a broken rule and of what stands in a slot, where the trace ends.
+fn first_with(slot: &Option<OpenRule<'_>>, broken: Option<RuleAt>) -> Option<RuleAt>
+    ensures { IsFirstWith slot.now broken result }
+{
+    let Some(item) = slot else {
+        return broken;
+    };
+    if !is_before(item.at, broken) {
+        return broken;
+    }
+    if is_met_at_end(&item.rest) {
+        return broken;
+    }
+    Some(item.at)
+}
+
 // The first broken rule where the trace ends.
-pub fn first_broken(asked: &[OpenRule<'_>], broken: Option<RuleAt>) -> Option<RuleAt>
+pub fn first_broken(asked: &OpenRules<'_>, broken: Option<RuleAt>) -> Option<RuleAt>
     ensures { (policy : List Formula) (trace : List Step) (end : AnyRuleAt)
         → IsJudged policy trace (length trace) end NothingElse asked.now broken
         → IsJudged policy trace (length trace) end NothingElse [] result }
 {
     let mut first = broken;
-    for item in asked {
-        if is_before(item.at, first) && !is_met_at_end(&item.rest) {
-            first = Some(item.at);
-        }
+    for slot in asked.slots() {
+        first = first_with(slot, first);
     }
     first
 }

@@ -6,13 +6,15 @@ use Rattle.enf_formula.specs.meaning.Satisfaction.{Formula}
 use Rattle.plan_terms.specs.meaning.Plans.{Plan}
 use Rattle.plan_terms.specs.machine.WellFormed.{IsScopedNode, AtEach, IsListedNode, IsSafeNode, EndsInTime}
 use Rattle.plan_terms.specs.meaning.Scopes.{FitsScope}
+use Rattle.wake_patterns.specs.machine.Laws.{BringsFresh}
 
--- the variables of a node are in scope or new, its guard or test can be evaluated and stands in the list at its number,
--- and its interval ends within the limit
+-- the variables of a node are in scope or new, its guard or test can be evaluated, binds new variables and stands in
+-- the list at its number, and its interval ends within the limit
 pub record IsAskable (guards : List (Formula × List VarId)) (node : Plan) (scope : List VarId) : Type 0 where
   pub scoped : IsScopedNode node scope
   pub safe : IsSafeNode node scope
   pub listed : IsListedNode guards node scope
+  pub fresh : BringsFresh node scope
   pub ends : EndsInTime node
 
 -- the plan can be evaluated at a step with these guards, under a valuation that binds the variables in scope

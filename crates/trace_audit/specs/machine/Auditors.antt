@@ -13,7 +13,7 @@ use Rattle.past_state.specs.machine.Guards.{AreCopies}
 use Rattle.past_state.specs.machine.OperatorRuns.{AreUpToTimeOf}
 use Rattle.past_state.specs.machine.Past.{Past, PastStands}
 use Rattle.enforce_types.specs.machine.TypedPolicies.{StoredTyped, typed_of}
-use Rattle.trace_audit.specs.declared.followed_rules.OpenRule.{OpenRule}
+use Rattle.trace_audit.specs.declared.open_rules.OpenRule.{OpenRule}
 use Rattle.trace_audit.specs.declared.verdicts.RuleAt.{RuleAt}
 use Rattle.trace_audit.specs.machine.Judgements.{RulesCanGoOn, AreJudged}
 

@@ -4,15 +4,16 @@ use Rattle.enf_data.specs.declared.terms.VarId.{VarId}
 use Rattle.enf_data.specs.meaning.Valuations.{no_values}
 use Rattle.std.specs.List.{AllByRecursion}
 use Rattle.std.specs.Prelude.{◌≡◌, ◌⊎◌, ◌<◌, Option, None, Some, ◌↔◌, ℕ, List, slice_get}
-use Rattle.std.specs.Prelude.{Contains, ◌+◌, [], ◌∷◌, ◌++◌}
+use Rattle.std.specs.Prelude.{Contains, ◌+◌, ◌∷◌, length}
 use Rattle.enf_formula.specs.meaning.Satisfaction.{Formula, Sat}
 use Rattle.plan_terms.specs.machine.StoredPlans.{formulas_for}
 use Rattle.plan_terms.specs.meaning.Plans.{Plan}
 use Rattle.trace_audit.specs.declared.followed_rules.Followed.{Followed}
-use Rattle.trace_audit.specs.declared.followed_rules.OpenRule.{OpenRule}
+use Rattle.trace_audit.specs.declared.open_rules.OpenRule.{OpenRule}
 use Rattle.trace_audit.specs.declared.residuals.Residual.{Residual}
 use Rattle.trace_audit.specs.declared.verdicts.RuleAt.{RuleAt}
 use Rattle.trace_audit.specs.machine.Moments.{IsAt, AuditMoment}
+use Rattle.trace_audit.specs.machine.OpenRules.{HasOneMoreRule}
 use Rattle.trace_audit.specs.machine.Residuals.{Means, ResidualCanGoOn}
 use Rattle.trace_audit.specs.meaning.Verdicts.{IsBroken}
 use Rattle.trace_audit.specs.declared.residuals.Residual.TheVariants as stored
@@ -70,15 +71,15 @@ abbrev pub PutsIn : RuleAt → Residual → Followed → Followed → Type 0
 PutsIn at stored.Met before after = after ≡ before
 PutsIn at stored.Failed before after = after ≡ record { asked = before.asked; broken = Some at }
 PutsIn at rest before after =
-    (after.asked.items ≡ before.asked.items ++ asked_at at rest ∷ []) × (after.broken ≡ before.broken)
+    HasOneMoreRule (asked_at at rest) before.asked after.asked × (after.broken ≡ before.broken)
 
 -- ---- over a step
 
 -- what was asked at the step is followed after it: on each trace where it is looked at as much is known as before
 abbrev pub FollowsAsked : AuditMoment → Followed → Followed → Type 0
 FollowsAsked now before after = (policy : List Formula) (trace : List Step) (end : RuleAt) → IsAt now trace
-    → IsJudged policy trace now.position end NothingElse before.asked.items before.broken
-    → IsJudged policy trace (now.position + 1) end NothingElse after.asked.items after.broken
+    → IsJudged policy trace now.position end NothingElse before.asked before.broken
+    → IsJudged policy trace (now.position + 1) end NothingElse after.asked after.broken
 
 -- the first of some is followed, and the others not yet
 abbrev pub FollowsOneAsked : AuditMoment → OpenRule → Followed → Followed → Type 0
@@ -86,8 +87,8 @@ FollowsOneAsked now item before after = (policy : List Formula) (trace : List St
     (left : List OpenRule)
     → IsAt now trace → IsAskedFor policy trace now.position end item
     → IsJudged policy trace (now.position + 1) end (RulesAreMet trace now.position (item ∷ left))
-    before.asked.items before.broken
-    → IsJudged policy trace (now.position + 1) end (RulesAreMet trace now.position left) after.asked.items
+    before.asked before.broken
+    → IsJudged policy trace (now.position + 1) end (RulesAreMet trace now.position left) after.asked
     after.broken
 
 abbrev pub rule_at : (rule position : ℕ) → RuleAt
@@ -97,13 +98,24 @@ rule_at rule position = record { rule = rule; position = position }
 abbrev pub BeginsRules : AuditMoment → List Plan → (count : ℕ) → Followed → Followed → Type 0
 BeginsRules now plans count before after = (trace : List Step) → IsAt now trace
     → IsJudged (formulas_for plans) trace (now.position + 1) (rule_at 0 now.position) NothingElse
-    before.asked.items before.broken
+    before.asked before.broken
     → IsJudged (formulas_for plans) trace (now.position + 1) (rule_at count now.position) NothingElse
-    after.asked.items after.broken
+    after.asked after.broken
 
 -- over a step: on each trace where it is looked at, what was known of the rules before its position is known of those
 -- up to it
 abbrev pub JudgesStep : AuditMoment → List Plan → Followed → Followed → Type 0
 JudgesStep now plans before after = (trace : List Step) → IsAt now trace
-    → AreJudged (formulas_for plans) trace (rule_at 0 now.position) before.asked.items before.broken
-    → AreJudged (formulas_for plans) trace (rule_at 0 (now.position + 1)) after.asked.items after.broken
+    → AreJudged (formulas_for plans) trace (rule_at 0 now.position) before.asked before.broken
+    → AreJudged (formulas_for plans) trace (rule_at 0 (now.position + 1)) after.asked after.broken
+
+-- ---- at the end
+
+-- the first of a broken rule and of what stands in a slot, where no position is left
+abbrev pub IsFirstWith : Option OpenRule → (broken first : Option RuleAt) → Type 0
+IsFirstWith None broken first = first ≡ broken
+IsFirstWith (Some item) broken first =
+    ((first ≡ Some item.at) × IsRuleBeforeAny item.at broken
+    × ((trace : List Step) → Means trace (length trace) item.rest → ⊥))
+    ⊎ ((first ≡ broken) × ((IsRuleBeforeAny item.at broken → ⊥)
+    ⊎ ((trace : List Step) → Means trace (length trace) item.rest)))

@@ -4,4 +4,4 @@ use Rattle.trace_audit.proofs.followed_rules.begin_each.Given as goal
 abbrev pub invariant-loop-rule : goal.invariant-loop-rule
 invariant-loop-rule l =
     BeginsRules (moment_of l.now) (map plan_of l.plans) l.rule l.fn.followed l.followed
-    × RulesCanGoOn (guards_at l.now.tables.now) l.followed.asked.items
+    × RulesCanGoOn (guards_at l.now.tables.now) l.followed.asked

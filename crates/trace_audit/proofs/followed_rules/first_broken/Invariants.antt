@@ -1,6 +1,6 @@
-use Rattle.trace_audit.proofs.Vocabulary.{drop}
+use Rattle.trace_audit.proofs.Vocabulary.{drop, open_in}
 use Rattle.trace_audit.proofs.JudgementLemmas.{FindsFirst}
 use Rattle.trace_audit.proofs.followed_rules.first_broken.Given as goal
 
-abbrev pub invariant-loop-item : goal.invariant-loop-item
-invariant-loop-item l = FindsFirst l.asked l.fn.broken (drop l.item-index l.asked) l.first
+abbrev pub invariant-loop-slot : goal.invariant-loop-slot
+invariant-loop-slot l = FindsFirst l.asked l.fn.broken (open_in (drop l.slot-index l.slot-items)) l.first

@@ -1,4 +1,4 @@
-use Rattle.trace_audit.proofs.Vocabulary.{◌≡◌, ◌++◌, RulesCanGoOn, guards_at, moment_of}
+use Rattle.trace_audit.proofs.Vocabulary.{RulesCanGoOn, guards_at, moment_of, AreAmongRules}
 use Rattle.trace_audit.proofs.JudgementLemmas.{FollowsOn}
 use Rattle.trace_audit.proofs.followed_rules.follow_each.Given as goal
 
@@ -6,6 +6,6 @@ abbrev pub invariant-loop-item : goal.invariant-loop-item
 invariant-loop-item l =
     (goal.iterator-loop-item).can_next l.item-iterator ×
     (goal.iterator-loop-item).is_finite l.item-iterator
-    × FollowsOn (moment_of l.now) l.fn.followed.asked.items l.fn.followed.broken l.item-iterator.rest.items l.followed
-    × (l.initial.item-iterator.rest.items ≡ l.yielded ++ l.item-iterator.rest.items)
-    × RulesCanGoOn (guards_at l.now.tables.now) l.followed.asked.items
+    × FollowsOn (moment_of l.now) l.fn.followed.asked l.fn.followed.broken l.item-iterator.rest.items l.followed
+    × AreAmongRules l.fn.followed.asked l.item-iterator.rest.items
+    × RulesCanGoOn (guards_at l.now.tables.now) l.followed.asked

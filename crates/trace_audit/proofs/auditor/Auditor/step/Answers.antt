@@ -37,7 +37,7 @@ returns c =
       past = past;
       position = c.self.inside.position;
       last = c.self.inside.last;
-      asked = c.self.inside.followed.asked.items;
+      asked = c.self.inside.followed.asked;
       broken = c.self.inside.followed.broken;
     } in
     let after : Auditing = record {
@@ -45,7 +45,7 @@ returns c =
       past = c.commit.new.self;
       position = c.self.inside.position + 1;
       last = time;
-      asked = c.follow_step.new.followed.asked.items;
+      asked = c.follow_step.new.followed.asked;
       broken = c.follow_step.new.followed.broken;
     } in
     subst (λ (a : Auditing). HasTaken a time events after) c.self.view_is (record {
