@@ -7,6 +7,7 @@ pub mod DeadlineLaws
 pub mod EmptyGuardLemmas
 pub mod ExistenceLemmas
 pub mod FallingLemmas
+pub mod FallingTests
 pub mod FirstMissingLemmas
 pub mod GatheredLists
 pub mod InstanceLeadLemmas

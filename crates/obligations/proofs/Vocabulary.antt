@@ -64,7 +64,7 @@ pub use Rattle.obligations.specs.machine.Cases.{then_at, then_for, two_and_one, 
 pub use Rattle.obligations.specs.machine.Deadlines.{count_due, deadline_at, is_deadline_at, is_due}
 pub use Rattle.obligations.specs.machine.ExistenceLaws.{AfterExists, BegunExists, MissingExists, MissingOfExists, PendExists, PendingAfterExists}
 pub use Rattle.obligations.specs.machine.FallingLaws.{FallingInstanceStaysMet, FallingStaysMet, OwnLeavesRest}
-pub use Rattle.obligations.specs.machine.FallingNames.{AnswersOwn, GrowsWith, Ignores, IsFalling, SuppressesWith}
+pub use Rattle.obligations.specs.machine.FallingNames.{AnswersOwn, GrowsWith, Ignores, IsFalling, SuppressesWith, CanBatch, IsFallingIn, KeepsRest, SuppressesOwn, is_same_name}
 pub use Rattle.obligations.specs.machine.FirstMissing.{FirstMissing, FirstOf}
 pub use Rattle.obligations.specs.machine.Leaves.{IsBound, IsLeaf, IsLeafConstant, terms_of}
 pub use Rattle.obligations.specs.machine.LossLaws.{SomethingMissedIsLost, time_behind}

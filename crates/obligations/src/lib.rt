@@ -5,6 +5,7 @@
 pub mod actions;
 pub mod begin;
 mod empty_guards;
+pub mod falling_names;
 pub mod instances;
 pub mod laws;
 mod leaves;

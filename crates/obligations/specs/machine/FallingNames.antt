@@ -2,10 +2,13 @@
 use Rattle.enf_data.specs.declared.events.NameId.{NameId}
 use Rattle.enf_data.specs.declared.terms.Term.{Term}
 use Rattle.std.specs.List.{AllByRecursion}
-use Rattle.std.specs.Prelude.{List, Contains, ◌≡◌, ◌⊎◌}
+use Rattle.std.specs.Prelude.{List, Contains, ◌≡◌, ◌⊎◌, Bool, nat_eq}
 use Rattle.enf_formula.specs.machine.Agreement.{names_in_formula}
 use Rattle.enf_formula.specs.meaning.Satisfaction.{Formula, Atom, And, Or, Exists}
 use Rattle.plan_terms.specs.meaning.Plans.{nodes, Plan, CausePlan, SuppressPlan, TestOr, Guarded}
+use Rattle.obligations.specs.machine.PlanClasses.{IsPlain}
+use Rattle.obligations.specs.machine.UnreadNames.{IsUnreadIn}
+use Rattle.obligations.specs.declared.literals.LiteralKind.TheVariants as kind
 
 -- the formula does not look for the name
 abbrev pub Ignores : NameId → Formula → Type 0
@@ -49,3 +52,16 @@ abbrev pub SuppressesOwn : NameId → Plan → Type 0
 SuppressesOwn name (Guarded node xs guard test body) =
     (terms : List Term) × AnswersOwn name terms test × SuppressesWith name terms body
 SuppressesOwn name plan = ⊥
+
+-- whether another name is the name
+abbrev pub is_same_name : NameId → NameId → Bool
+is_same_name name other = nat_eq other.0 name.0
+
+-- what the plan misses is, after events of the name went, the rest of what it missed
+abbrev pub KeepsRest : NameId → Plan → Type 0
+KeepsRest name plan =
+    SuppressesOwn name plan ⊎ (IsUnreadIn kind.Suppress name plan × AllByRecursion IsPlain (nodes plan))
+
+-- the plans are falling in the name, and one of them keeps the rest of what it misses
+abbrev pub CanBatch : List Plan → NameId → Plan → Type 0
+CanBatch plans name plan = AllByRecursion (IsFallingIn name) plans × KeepsRest name plan
