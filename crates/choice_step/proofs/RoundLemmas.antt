@@ -1,42 +1,63 @@
 -- A round begins with the instances that wait: all others sleep, and miss nothing.
-use Rattle.choice_step.proofs.Vocabulary.{◌≡◌, ℕ, ◌==◌, Bool, false, List, [], ◌∷◌, Contains, ⊎_elim, inl, inr, sym, ap, subst, arith, AllByRecursion, and_right, ne_eqb, here, later, Event, Step}
-use Rattle.choice_step.proofs.Vocabulary.{VarId, Formula, Plan, time_now, MissingOfExists, MissingOf, CanAskOf, Instance, AllButThose, HasNone, SleepsAt, SleepersMissNothing, is_forced}
+use Rattle.choice_step.proofs.Vocabulary.{◌≡◌, ℕ, Bool, false, List, [], ◌∷◌, Contains, ⊎_elim, inl, inr, sym, ap, subst, arith, ◌<◌, ◌∙◌, moment_of, AllByRecursion, here, later, Event, Step}
+use Rattle.choice_step.proofs.Vocabulary.{VarId, Formula, Plan, time_now, MissingOfExists, MissingOf, CanAskOf, Instance, AllButThose, HasNone, SleepsNow, SleepersMissNothing, EarlyMissNothing, Listed, Wait, IsWaitOf, IsPendingListOf, PendingList, listed_instances, is_forced}
 use Rattle.choice_step.proofs.Vocabulary.{trace_with_step, CoversMet}
+use Rattle.pending.proofs.MomentLemmas.{before_last, not_begun, not_forced}
 use Rattle.choice_step.proofs.UniquenessLemmas.{last_step}
 use Rattle.choice_step.proofs.FirstActionLemmas.{Met}
 
-module _ (exists : MissingOfExists) (sleep : SleepersMissNothing) (guards : List (Formula × List VarId)) (plans : List Plan) (inserted : Bool)
+module _ (exists : MissingOfExists) (sleep : SleepersMissNothing) (early : EarlyMissNothing) (guards : List (Formula × List VarId)) (plans : List Plan) (inserted : Bool)
     (trace : List Step) (time : ℕ) (events : List Event) where
   abbrev now : List Step
   now = trace_with_step trace time events
 
-  sleeper_met : (i : Instance) → CanAskOf guards plans i → SleepsAt plans events time i → Met plans inserted now i
-  sleeper_met i can sleeps =
+  sleeper_met : (x : Listed) → CanAskOf guards plans x.instance → IsWaitOf plans x.wait x.instance → SleepsNow events (moment_of inserted time) x
+      → Met plans inserted now x.instance
+  sleeper_met x can is sleeps =
+      let i = x.instance in
       let step : Step = record { time = time; events = events } in
       let last = last_step trace step in
       let at : time_now now ≡ time = ap (λ (s : Step). s.time) last in
-      let before = sleeps.in_time in
-      let apart : (time_now now ≡ i.high) → ⊥ = λ same. omega (arith, same, at, before) in
-      let waits : is_forced inserted (time_now now) i ≡ false = and_right inserted (time_now now == i.high) (ne_eqb (time_now now) i.high apart) in
+      let none = subst (HasNone sleeps.patterns) (sym (ap (λ (s : Step). s.events) last)) sleeps.none in
+      let before = before_last plans x.wait i (moment_of inserted time) is sleeps.in_time in
+      let waits : is_forced inserted (time_now now) i ≡ false = subst (λ t. is_forced inserted t i ≡ false) (sym at) (not_forced inserted time i.high before) in
       let found = exists guards plans now i false can in
-      let none = sleep guards plans now i can (record {
+      let nothing = ⊎_elim
+      (λ open_is. sleep guards plans now i can (record { patterns = sleeps.patterns; wakes = sym (ap (λ (w : Wait). w.patterns) open_is) ∙ sleeps.waits; none = none }) found.0 found.1)
+      (λ early_is.
+      let first = not_begun inserted time i (subst (λ (w : Wait). moment_of inserted time < w.until) early_is sleeps.in_time) in
+      early guards plans now i can (record {
         patterns = sleeps.patterns;
-        wakes = sleeps.waits;
-        none = subst (HasNone sleeps.patterns) (sym (ap (λ (s : Step). s.events) last)) sleeps.none;
-      }) found.0 found.1 in
-      subst (λ b. MissingOf plans now i b []) (sym waits) (subst (MissingOf plans now i false) none found.1)
+        wakes = sym (ap (λ (w : Wait). w.patterns) early_is) ∙ sleeps.waits;
+        none = none;
+        before = omega (arith, first, at);
+      }) found.0 found.1) is in
+      subst (λ b. MissingOf plans now i b []) (sym waits) (subst (MissingOf plans now i false) nothing found.1)
 
-  pub covers_sleep : (all rest : List Instance) → AllByRecursion (CanAskOf guards plans) all → AllButThose (SleepsAt plans events time) all rest
-      → CoversMet (Met plans inserted now) all rest
-  covers_sleep [] rest can but = but
-  covers_sleep (i ∷ all) rest can but =
-      ⊎_elim (λ c. inl (c.0, c.3, covers_sleep all c.0 can.1 c.2)) (λ c. inr (sleeper_met i can.0 c.0, covers_sleep all rest can.1 c.1)) but
+  covers_listed : (all rest : List Listed) → AllByRecursion (CanAskOf guards plans) (listed_instances all) → AllByRecursion (λ x. IsWaitOf plans x.wait x.instance) all
+      → AllButThose (SleepsNow events (moment_of inserted time)) all rest → CoversMet (Met plans inserted now) (listed_instances all) (listed_instances rest)
+  covers_listed [] rest can waits but = ap listed_instances but
+  covers_listed (x ∷ all) rest can waits but = ⊎_elim
+      (λ c. inl (listed_instances c.0, ap listed_instances c.3, covers_listed all c.0 can.1 waits.1 c.2))
+      (λ c. inr (sleeper_met x can.0 waits.0 c.0, covers_listed all rest can.1 waits.1 c.1)) but
 
--- the rest of a list is of it
-pub rest_among : {X : Type 0} (Q : X → Type 0) (all rest : List X) → AllButThose Q all rest → (whole : List X) → ((x : X) → Contains all x → Contains whole x)
-    → AllByRecursion (Contains whole) rest
-rest_among Q [] rest but whole inside = subst (AllByRecursion (Contains whole)) (sym but) tt
-rest_among Q (x ∷ all) rest but whole inside =
-    ⊎_elim
-    (λ c. subst (AllByRecursion (Contains whole)) (sym c.3) (inside x (here x all), rest_among Q all c.0 c.2 whole (λ y there. inside y (later y x all there))))
-    (λ c. rest_among Q all rest c.1 whole (λ y there. inside y (later y x all there))) but
+  pub covers_sleep : (pending : PendingList) (rest : List Listed) → IsPendingListOf plans pending → AllByRecursion (CanAskOf guards plans) pending.instances
+      → AllButThose (SleepsNow events (moment_of inserted time)) pending.listed rest → CoversMet (Met plans inserted now) pending.instances (listed_instances rest)
+  covers_sleep pending rest kept can but =
+      subst (λ l. CoversMet (Met plans inserted now) l (listed_instances rest)) kept.instances
+      (covers_listed pending.listed rest (subst (AllByRecursion (CanAskOf guards plans)) (sym kept.instances) can) kept.waits but)
+
+-- the instances of the rest of a list are of it
+pub rest_among : (Q : Listed → Type 0) (all rest : List Listed) → AllButThose Q all rest → (whole : List Instance)
+    → ((i : Instance) → Contains (listed_instances all) i → Contains whole i) → AllByRecursion (Contains whole) (listed_instances rest)
+rest_among Q [] rest but whole inside = subst (λ l. AllByRecursion (Contains whole) (listed_instances l)) (sym but) tt
+rest_among Q (x ∷ all) rest but whole inside = ⊎_elim
+    (λ c. subst (λ l. AllByRecursion (Contains whole) (listed_instances l)) (sym c.3) (
+      inside x.instance (here x.instance (listed_instances all)),
+      rest_among Q all c.0 c.2 whole (λ i there. inside i (later i x.instance (listed_instances all) there)),
+    ))
+    (λ c. rest_among Q all rest c.1 whole (λ i there. inside i (later i x.instance (listed_instances all) there))) but
+
+pub woken_among : (plans : List Plan) (pending : PendingList) (Q : Listed → Type 0) (rest : List Listed) → IsPendingListOf plans pending → AllButThose Q pending.listed rest
+    → AllByRecursion (Contains pending.instances) (listed_instances rest)
+woken_among plans pending Q rest kept but = rest_among Q pending.listed rest but pending.instances (λ i there. subst (λ l. Contains l i) kept.instances there)

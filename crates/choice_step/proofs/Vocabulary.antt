@@ -2,7 +2,7 @@
 pub use Rattle.std.proofs.Common.{All, Bool, Contains, IfOk, IsTrue, List, None, Option, Some, [], ap, append-nil, append_assoc, arith, cond, drop, false, get_or, inl, inr, length, length-append}
 pub use Rattle.std.proofs.Common.{lit<, lit≤, map, refl, reverse, rules, slice_index_or, subst, suc, sym, take, true, true≢false, zero, ℕ, ⊎_elim, ◌&&◌, ◌++◌, ◌+◌, ◌-◌, ◌<◌, ◌==◌, ◌↔◌, ◌∙◌, ◌∷◌, ◌≡◌}
 pub use Rattle.std.proofs.Common.{◌≤◌, ◌⊎◌}
-pub use Rattle.std.proofs.lemmas.Bool.{and_right, cases_lt, eqb-false, eqb-true, false≢true, ne_eqb}
+pub use Rattle.std.proofs.lemmas.Bool.{cases_lt, eqb-false, eqb-true, false≢true}
 pub use Rattle.std.proofs.lemmas.Fn.{always_returns_same}
 pub use Rattle.std.proofs.lemmas.List.{drop_all, length-map, map-append, take_all, take_more, take_rest}
 pub use Rattle.std.proofs.lemmas.List.Elements.{All-contains, All-from_recursion, All-more, All-nil, All-weaker, Contains-append_cases, Contains-append_left, Contains-append_right, Contains-push}
@@ -111,8 +111,10 @@ pub use Rattle.past_state.specs.machine.Past.{AreTablesAtStep, GuardsWillHold, I
 pub use Rattle.past_state.specs.machine.StoredRows.{StoresFor}
 pub use Rattle.past_state.specs.machine.ValueSources.{AreKnown, IsConstantOf, IsKeptValue}
 pub use Rattle.past_state.specs.meaning.KeptRows.{pair_of}
-pub use Rattle.pending.specs.machine.Laws.{SleepersMissNothing}
-pub use Rattle.pending.specs.machine.PendingLists.{SleepsAt}
+pub use Rattle.pending.specs.machine.Laws.{EarlyMissNothing, SleepersMissNothing}
+pub use Rattle.pending.specs.machine.Moments.{moment_of}
+pub use Rattle.pending.specs.machine.PendingLists.{IsPendingListOf, PendingList, listed_instances}
+pub use Rattle.pending.specs.machine.Waits.{IsWaitOf, Listed, SleepsNow, Wait}
 pub use Rattle.plan_terms.proofs.NodeLemmas.{first_node, plan_at}
 pub use Rattle.plan_terms.proofs.ScopeLaws.{AtEach-below, AtEach-root}
 pub use Rattle.plan_terms.specs.machine.Laws.{LostStaysLost, OwedStaysOwed}

@@ -151,9 +151,12 @@ fn go_round(
     unread_tables_stay();
     sleepers_stay();
     pending_exists();
-    let woken = situation
-        .pending
-        .woken(alloc, events.as_slice(), situation.time)?;
+    let woken = situation.pending.woken(
+        alloc,
+        events.as_slice(),
+        situation.time,
+        situation.inserted,
+    )?;
     let waiting = woken.as_slice();
     let Seen {
         found,

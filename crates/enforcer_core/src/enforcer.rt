@@ -128,7 +128,7 @@ impl Enforcer {
         } = snapshot;
         let facts = PlanFacts::of(alloc, policy.plans())?;
         let past = PastState::from_kept(alloc, policy.guards(), last, kept)?;
-        let pending = Pending::from_list(alloc, policy.plans(), pending)?;
+        let pending = Pending::from_list(alloc, policy.plans(), clock, pending)?;
         Ok(Enforcer {
             policy,
             facts,

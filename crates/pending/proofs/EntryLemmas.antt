@@ -2,33 +2,50 @@
 use Rattle.pending.proofs.Vocabulary.{◌≡◌, ℕ, suc, ◌+◌, ◌<◌, List, [], ◌∷◌, ◌++◌, Contains, ⊎_elim, refl, sym, ap, subst, ◌∙◌, arith, get_or, length, map, AllByRecursion, sum_by-append, map-append}
 use Rattle.pending.proofs.Vocabulary.{AllByRecursion-append, AllByRecursion-of_append, first_or_later, here, later, none_in_nil, Plan, ArePlaced, HasOneMoreEntry, IsFreePlace, entry_places}
 use Rattle.pending.proofs.Vocabulary.{fewer_placed, IsPlaceBefore, Place, places_from, beginning_at, PutsInEntries, TakesOutEntries, Entry, count_due, Instance, wake_patterns_of, ArePendingEntries}
-use Rattle.pending.proofs.Vocabulary.{FitsStep, entries_from, entry_at, items_of, waits_of}
+use Rattle.pending.proofs.Vocabulary.{FitsStep, entries_from, entry_at, items_of, all_listed, listed_instances, IsWaitOf, patterns_at, until_at, early_until, open_until}
+use Rattle.pending.proofs.Vocabulary.{Bool, true, false, cond, nat_lt, inl, inr, early_patterns_of}
+
+-- ---- what an entry waits for that is filed at a time
+
+pub filed_waits : (plans : List Plan) (time : ℕ) (i : Instance) → IsWaitOf plans (record { patterns = patterns_at plans time i; until = until_at time i }) i
+filed_waits plans time i = by (nat_lt time i.low)
+  where
+    by : (early : Bool) → IsWaitOf plans (record {
+      patterns = cond early (early_patterns_of plans i) (wake_patterns_of plans i);
+      until = cond early (early_until i) (open_until i);
+    }) i
+    by true = inr refl
+    by false = inl refl
+
+pub listed_items : (all : List (Entry Instance)) → listed_instances (all_listed all) ≡ items_of all
+listed_items [] = refl
+listed_items (e ∷ all) = ap (λ l. e.item ∷ l) (listed_items all)
 
 -- ---- entries that go on from a place
 
-module _ (plans : List Plan) (place : Place) (number : ℕ) where
+module _ (plans : List Plan) (time : ℕ) (place : Place) (number : ℕ) where
   -- one more
   pub entries_more : (k : ℕ) (xs : List Instance) (x : Instance) (n : ℕ) → n ≡ k + length xs
-      → entries_from plans place number k (xs ++ x ∷ []) ≡ entries_from plans place number k xs ++ entry_at plans (place ++ beginning_at number n ∷ []) x ∷ []
-  entries_more k [] x n is = let same : k ≡ n = omega (arith, is) in ap (λ m. entry_at plans (place ++ beginning_at number m ∷ []) x ∷ []) same
+      → entries_from plans time place number k (xs ++ x ∷ []) ≡ entries_from plans time place number k xs ++ entry_at plans time (place ++ beginning_at number n ∷ []) x ∷ []
+  entries_more k [] x n is = let same : k ≡ n = omega (arith, is) in ap (λ m. entry_at plans time (place ++ beginning_at number m ∷ []) x ∷ []) same
   entries_more k (z ∷ xs) x n is =
       let on : n ≡ suc k + length xs = omega (arith, is) in
-      ap (λ l. entry_at plans (place ++ beginning_at number k ∷ []) z ∷ l) (entries_more (suc k) xs x n on)
+      ap (λ l. entry_at plans time (place ++ beginning_at number k ∷ []) z ∷ l) (entries_more (suc k) xs x n on)
 
-  pub none_from : (k : ℕ) (xs : List Instance) → length xs ≡ 0 → entries_from plans place number k xs ≡ []
+  pub none_from : (k : ℕ) (xs : List Instance) → length xs ≡ 0 → entries_from plans time place number k xs ≡ []
   none_from k [] none = refl
   none_from k (x ∷ xs) none = absurd (omega (arith, none))
 
-  pub entries_items : (k : ℕ) (xs : List Instance) → items_of (entries_from plans place number k xs) ≡ xs
+  pub entries_items : (k : ℕ) (xs : List Instance) → items_of (entries_from plans time place number k xs) ≡ xs
   entries_items k [] = refl
   entries_items k (x ∷ xs) = ap (λ l. x ∷ l) (entries_items (suc k) xs)
 
-  pub entries_wait : (k : ℕ) (xs : List Instance) → waits_of (entries_from plans place number k xs) ≡ map (wake_patterns_of plans) (items_of (entries_from plans place number k xs))
-  entries_wait k [] = refl
-  entries_wait k (x ∷ xs) = ap (λ l. wake_patterns_of plans x ∷ l) (entries_wait (suc k) xs)
+  pub entries_wait : (k : ℕ) (xs : List Instance) → AllByRecursion (λ x. IsWaitOf plans x.wait x.instance) (all_listed (entries_from plans time place number k xs))
+  entries_wait k [] = tt
+  entries_wait k (x ∷ xs) = (filed_waits plans time x, entries_wait (suc k) xs)
 
   pub entries_places : (k : ℕ) (xs : List Instance)
-      → entry_places (entries_from plans place number k xs) ≡ places_from place number k (length (entries_from plans place number k xs))
+      → entry_places (entries_from plans time place number k xs) ≡ places_from place number k (length (entries_from plans time place number k xs))
   entries_places k [] = refl
   entries_places k (x ∷ xs) = ap (λ l. (place ++ beginning_at number k ∷ []) ∷ l) (entries_places (suc k) xs)
 
@@ -84,28 +101,28 @@ puts_more (z ∷ xs) x all mid grown one more = (one.0, one.1, puts_more xs x on
 
 -- ---- entries that are put in at the first beginning, from the last to the first
 
-module _ (plans : List Plan) where
+module _ (plans : List Plan) (time : ℕ) where
   -- none of them comes at an earlier place
-  pub free_below : (j k : ℕ) (xs : List Instance) → j < k → IsFreePlace (beginning_at 0 j ∷ []) (entries_from plans [] 0 k xs)
+  pub free_below : (j k : ℕ) (xs : List Instance) → j < k → IsFreePlace (beginning_at 0 j ∷ []) (entries_from plans time [] 0 k xs)
   free_below j k [] less there = none_in_nil (beginning_at 0 j ∷ []) there
   free_below j k (x ∷ xs) less there =
       ⊎_elim (λ same. let at = ap (λ (p : Place). (get_or p 0 (beginning_at 0 j)).among) same in omega (arith, at, less)) (free_below j (suc k) xs (omega (arith, less)))
-      (first_or_later (beginning_at 0 j ∷ []) (beginning_at 0 k ∷ []) (entry_places (entries_from plans [] 0 (suc k) xs)) there)
+      (first_or_later (beginning_at 0 j ∷ []) (beginning_at 0 k ∷ []) (entry_places (entries_from plans time [] 0 (suc k) xs)) there)
 
   at_middle : (front back : List (Entry Instance)) (e : Entry Instance) → Contains (entry_places (front ++ e ∷ back)) e.place
   at_middle [] back e = here e.place (entry_places back)
   at_middle (f ∷ front) back e = later e.place f.place (entry_places (front ++ e ∷ back)) (at_middle front back e)
 
   -- what comes at an earlier place is the first
-  pub put_first : (n : ℕ) (x : Instance) (xs : List Instance) (fewer more : List (Entry Instance)) → fewer ≡ entries_from plans [] 0 (suc n) xs
-      → HasOneMoreEntry (entry_at plans (beginning_at 0 n ∷ []) x) fewer more → more ≡ entries_from plans [] 0 n (x ∷ xs)
+  pub put_first : (n : ℕ) (x : Instance) (xs : List Instance) (fewer more : List (Entry Instance)) → fewer ≡ entries_from plans time [] 0 (suc n) xs
+      → HasOneMoreEntry (entry_at plans time (beginning_at 0 n ∷ []) x) fewer more → more ≡ entries_from plans time [] 0 n (x ∷ xs)
   put_first n x xs fewer more is one = one.more_is ∙ by one.front xs (sym is ∙ one.fewer_is) (subst ArePlaced one.more_is one.placed)
     where
       entry : Entry Instance
-      entry = entry_at plans (beginning_at 0 n ∷ []) x
+      entry = entry_at plans time (beginning_at 0 n ∷ []) x
 
-      by : (front : List (Entry Instance)) (ys : List Instance) → entries_from plans [] 0 (suc n) ys ≡ front ++ one.back → ArePlaced (front ++ entry ∷ one.back)
-          → front ++ entry ∷ one.back ≡ entries_from plans [] 0 n (x ∷ ys)
+      by : (front : List (Entry Instance)) (ys : List Instance) → entries_from plans time [] 0 (suc n) ys ≡ front ++ one.back → ArePlaced (front ++ entry ∷ one.back)
+          → front ++ entry ∷ one.back ≡ entries_from plans time [] 0 n (x ∷ ys)
       by [] ys are placed = ap (λ l. entry ∷ l) (sym are)
       by (f ∷ front) [] are placed = absurd (omega (arith, ap length are))
       by (f ∷ front) (y ∷ ys) are placed =

@@ -1,12 +1,13 @@
 -- What was pending, after a step.
-use Rattle.pending.proofs.Vocabulary.{◌≡◌, ℕ, suc, ◌+◌, ◌-◌, ◌<◌, ◌≤◌, ◌^◌, ◌==◌, Bool, true, false, cond, List, [], ◌∷◌, ◌++◌, Contains, ◌⊎◌, inl, inr, ⊎_elim, refl, sym, ap, subst, ◌∙◌, arith}
-use Rattle.pending.proofs.Vocabulary.{length, map, drop, get_or, Option, None, AllByRecursion, and_right, ne_eqb, append-nil, AllByRecursion-append, AllByRecursion-contains, AllByRecursion-weaker}
+use Rattle.pending.proofs.Vocabulary.{◌≡◌, ℕ, suc, ◌+◌, ◌-◌, ◌<◌, ◌≤◌, ◌^◌, Bool, true, false, cond, List, [], ◌∷◌, ◌++◌, Contains, ◌⊎◌, inl, inr, ⊎_elim, refl, sym, ap, subst, ◌∙◌, arith}
+use Rattle.pending.proofs.Vocabulary.{length, map, Option, AllByRecursion, append-nil, AllByRecursion-append, AllByRecursion-contains, AllByRecursion-weaker}
 use Rattle.pending.proofs.Vocabulary.{Contains-append, first_or_later, here, later, none_in_nil, Step, Plan, has_deadline, IsAllBut, IsAsleep, entry_places, Place, WasMade, places_from, beginning_at}
 use Rattle.pending.proofs.Vocabulary.{HasNone, CanPutIn, OutcomeGoesOn, IsInOrder, IsOneOr, IsStep, EntryOutcome, PutsInEntries, begun_entries, entries_behind, StepsCanPutIn, StepsGoInOrder, Entry}
 use Rattle.pending.proofs.Vocabulary.{Beginning, IsNowOf, guards_at, time_now, Gathers, AreServed, is_forced_at, ComesOf, NowLeads, AfterExists, After, AtNode, PendingAfter, node_of, IsBegunUnder}
-use Rattle.pending.proofs.Vocabulary.{CanAskOf, HasPart, Instance, Now, EntryBecomes, CarriesPending, WalksEntries, ArePendingEntries, FitsStep, entries_from, items_of, waits_of, IsPendingListOf}
-use Rattle.pending.proofs.Vocabulary.{PendingList, SleepersStay, wake_patterns_of}
-use Rattle.pending.proofs.EntryLemmas.{entries_items, entries_places, items_append}
+use Rattle.pending.proofs.Vocabulary.{CanAskOf, HasPart, Instance, Now, EntryBecomes, CarriesPending, WalksEntries, ArePendingEntries, FitsStep, entries_from, items_of, IsPendingListOf}
+use Rattle.pending.proofs.Vocabulary.{EarlyStay, IsWaitOf, Listed, PendingList, SleepersStay, Wait, all_listed, listed_of, moment_of}
+use Rattle.pending.proofs.EntryLemmas.{entries_items, entries_places, filed_waits, items_append}
+use Rattle.pending.proofs.MomentLemmas.{before_last, not_begun, not_forced, not_later}
 use Rattle.pending.proofs.WakePatternLemmas.{not_over}
 
 -- ---- places at the next step
@@ -29,11 +30,11 @@ made_on f g m n j (t ∷ p) more less made =
 pub made_now : (f g n j : ℕ) → f < g → WasMade g n (beginning_at f j ∷ [])
 made_now f g n j less = (less, tt)
 
-module _ (plans : List Plan) where
+module _ (plans : List Plan) (time : ℕ) where
   pub fit_from : (steps number k : ℕ) (place : Place) (xs : List Instance)
-      → ((j : ℕ) → WasMade steps (2 ^ 64 - 1 - steps) (place ++ beginning_at number j ∷ [])) → AllByRecursion (FitsStep steps) (entries_from plans place number k xs)
+      → ((j : ℕ) → WasMade steps (2 ^ 64 - 1 - steps) (place ++ beginning_at number j ∷ [])) → AllByRecursion (FitsStep steps) (entries_from plans time place number k xs)
   fit_from steps number k place [] made = tt
-  fit_from steps number k place (x ∷ xs) made = (record { made = made k; ends = refl }, fit_from steps number (suc k) place xs made)
+  fit_from steps number k place (x ∷ xs) made = (record { made = made k }, fit_from steps number (suc k) place xs made)
 
 pub kept_later : (n : ℕ) (all : List (Entry Instance)) → n < 2 ^ 64 - 1 → ArePendingEntries n all → ArePendingEntries (n + 1) all
 kept_later n all small kept = record {
@@ -41,30 +42,33 @@ kept_later n all small kept = record {
   fit = AllByRecursion-weaker (FitsStep n) (FitsStep (n + 1)) all (λ e f. record {
     made = made_later n (n + 1) (2 ^ 64 - 1 - n) (2 ^ 64 - 1 - (n + 1)) e.place (omega arith) (omega arith)
         f.made;
-    ends = f.ends;
   }) kept.fit;
 }
 
 -- ---- what is known of each entry
 
 module _ (now : Now) (plans : List Plan) where
-  -- it waits for what can change its instance, which can be asked
-  abbrev Good : Entry Instance → Type 0
-  Good e = (e.patterns ≡ wake_patterns_of plans e.item) × CanAskOf (guards_at now.tables.now) plans e.item
+  -- it waits as its instance does
+  abbrev WaitsWell : Listed → Type 0
+  WaitsWell x = IsWaitOf plans x.wait x.instance
 
-  good_all : (all : List (Entry Instance)) → waits_of all ≡ map (wake_patterns_of plans) (items_of all) → AllByRecursion (CanAskOf (guards_at now.tables.now) plans) (items_of all)
+  -- so it is with an entry, whose instance can be asked
+  abbrev Good : Entry Instance → Type 0
+  Good e = IsWaitOf plans (listed_of e).wait e.item × CanAskOf (guards_at now.tables.now) plans e.item
+
+  good_all : (all : List (Entry Instance)) → AllByRecursion WaitsWell (all_listed all) → AllByRecursion (CanAskOf (guards_at now.tables.now) plans) (items_of all)
       → AllByRecursion Good all
   good_all [] waits asked = tt
-  good_all (e ∷ all) waits asked = ((ap (λ l. get_or l 0 None) waits, asked.0), good_all all (ap (λ l. drop 1 l) waits) asked.1)
+  good_all (e ∷ all) waits asked = ((waits.0, asked.0), good_all all waits.1 asked.1)
 
   good_from : (number k : ℕ) (place : Place) (xs : List Instance) → AllByRecursion (CanAskOf (guards_at now.tables.now) plans) xs
-      → AllByRecursion Good (entries_from plans place number k xs)
+      → AllByRecursion Good (entries_from plans now.time place number k xs)
   good_from number k place [] asked = tt
-  good_from number k place (x ∷ xs) asked = ((refl, asked.0), good_from number (suc k) place xs asked.1)
+  good_from number k place (x ∷ xs) asked = ((filed_waits plans now.time x, asked.0), good_from number (suc k) place xs asked.1)
 
-  good_waits : (all : List (Entry Instance)) → AllByRecursion Good all → waits_of all ≡ map (wake_patterns_of plans) (items_of all)
-  good_waits [] good = refl
-  good_waits (e ∷ all) good = let one = good.0.0 in let rest = good_waits all good.1 in λ i. one i ∷ rest i
+  good_waits : (all : List (Entry Instance)) → AllByRecursion Good all → AllByRecursion WaitsWell (all_listed all)
+  good_waits [] good = tt
+  good_waits (e ∷ all) good = (good.0.0, good_waits all good.1)
 
   good_asked : (all : List (Entry Instance)) → AllByRecursion Good all → AllByRecursion (CanAskOf (guards_at now.tables.now) plans) (items_of all)
   good_asked [] good = tt
@@ -74,10 +78,10 @@ module _ (now : Now) (plans : List Plan) where
 
 module _ (now : Now) (plans : List Plan) (inserted : Bool) (n : ℕ) (all left more : List (Entry Instance)) (small : n < 2 ^ 64 - 1)
     (kept : ArePendingEntries n all) (seen : PendingList) (deadlines : List ℕ)
-    (view : record { instances = items_of all; deadlines = deadlines; waits = waits_of all } ≡ seen) (keeps : IsPendingListOf plans seen)
+    (view : record { instances = items_of all; deadlines = deadlines; listed = all_listed all } ≡ seen) (keeps : IsPendingListOf plans seen)
     (can : AllByRecursion (CanAskOf (guards_at now.tables.now) plans) seen.instances) (carried : CarriesPending now plans inserted n all left more) where
   abbrev Q : Entry Instance → Type 0
-  Q = IsAsleep now.events.now now.time
+  Q = IsAsleep now.events.now (moment_of inserted now.time)
 
   abbrev m : ℕ
   m = carried.later
@@ -86,7 +90,7 @@ module _ (now : Now) (plans : List Plan) (inserted : Bool) (n : ℕ) (all left m
   walks = carried.walks
 
   abbrev anew : List (Entry Instance)
-  anew = entries_from plans [] n 0 carried.roots
+  anew = entries_from plans now.time [] n 0 carried.roots
 
   abbrev entry_of : EntryOutcome Instance → Entry Instance
   entry_of o = o.entry
@@ -94,8 +98,8 @@ module _ (now : Now) (plans : List Plan) (inserted : Bool) (n : ℕ) (all left m
   seen_are : items_of all ≡ seen.instances
   seen_are = ap (λ (p : PendingList). p.instances) view
 
-  waits : waits_of all ≡ map (wake_patterns_of plans) (items_of all)
-  waits = (subst (IsPendingListOf plans) (sym view) keeps).wait
+  waits : AllByRecursion (WaitsWell now plans) (all_listed all)
+  waits = (subst (IsPendingListOf plans) (sym view) keeps).waits
 
   asked : AllByRecursion (CanAskOf (guards_at now.tables.now) plans) (items_of all)
   asked = subst (AllByRecursion (CanAskOf (guards_at now.tables.now) plans)) (sym seen_are) can
@@ -107,7 +111,7 @@ module _ (now : Now) (plans : List Plan) (inserted : Bool) (n : ℕ) (all left m
   goes_on [] each = tt
   goes_on (o ∷ outcomes) each =
       let b = each.0 in
-      (subst (λ (l : List (Entry Instance)). entry_places l ≡ places_from o.entry.place m 0 (length l)) (sym b.begun) (entries_places plans o.entry.place m 0 b.more), goes_on outcomes each.1)
+      (subst (λ (l : List (Entry Instance)). entry_places l ≡ places_from o.entry.place m 0 (length l)) (sym b.begun) (entries_places plans now.time o.entry.place m 0 b.more), goes_on outcomes each.1)
 
   step : IsStep n m Q all walks.outcomes left anew
   step = record {
@@ -116,17 +120,17 @@ module _ (now : Now) (plans : List Plan) (inserted : Bool) (n : ℕ) (all left m
     looked_at = subst (IsAllBut Q all) looked_all carried.awake;
     go_on = goes_on walks.outcomes walks.each;
     taken_out = walks.taken_out;
-    first_beginning = entries_places plans [] n 0 carried.roots;
+    first_beginning = entries_places plans now.time [] n 0 carried.roots;
   }
 
   pub can_put : StepsCanPutIn Instance → CanPutIn more left
   can_put law =
       subst (λ (l : List (Entry Instance)). CanPutIn l left) (sym carried.grown)
-      (subst (λ (l : List (Entry Instance)). CanPutIn (l ++ anew) left) (sym walks.begun_are) (law now.events.now now.time n m all walks.outcomes left anew step))
+      (subst (λ (l : List (Entry Instance)). CanPutIn (l ++ anew) left) (sym walks.begun_are) (law now.events.now (moment_of inserted now.time) n m all walks.outcomes left anew step))
 
   order_of : StepsGoInOrder Instance → (grown : List (Entry Instance)) → PutsInEntries more left grown → IsInOrder Q all walks.outcomes anew grown
   order_of law grown puts =
-      law now.events.now now.time n m all walks.outcomes left anew grown step
+      law now.events.now (moment_of inserted now.time) n m all walks.outcomes left anew grown step
       (subst (λ (l : List (Entry Instance)). PutsInEntries (l ++ anew) left grown) walks.begun_are (subst (λ (l : List (Entry Instance)). PutsInEntries l left grown) carried.grown puts))
 
   in_all : (o : EntryOutcome Instance) → Contains walks.outcomes o → Contains all o.entry
@@ -142,7 +146,7 @@ module _ (now : Now) (plans : List Plan) (inserted : Bool) (n : ℕ) (all left m
       subst (AllByRecursion (FitsStep (n + 1))) (sym carried.grown)
       (AllByRecursion-append (FitsStep (n + 1)) carried.begun_for anew
       (subst (AllByRecursion (FitsStep (n + 1))) (sym walks.begun_are) (each_fit walks.outcomes walks.each in_all))
-      (fit_from plans (n + 1) n 0 [] carried.roots (λ j. made_now n (n + 1) (2 ^ 64 - 1 - (n + 1)) j (omega arith))))
+      (fit_from plans now.time (n + 1) n 0 [] carried.roots (λ j. made_now n (n + 1) (2 ^ 64 - 1 - (n + 1)) j (omega arith))))
     where
       each_fit : (os : List (EntryOutcome Instance)) → AllByRecursion (EntryBecomes now plans inserted m) os → ((o : EntryOutcome Instance) → Contains os o → Contains all o.entry)
           → AllByRecursion (FitsStep (n + 1)) (begun_entries os)
@@ -152,7 +156,7 @@ module _ (now : Now) (plans : List Plan) (inserted : Bool) (n : ℕ) (all left m
           let at = carried.at in
           let f = AllByRecursion-contains (FitsStep n) all o.entry kept.fit (inside o (here o os)) in
           AllByRecursion-append (FitsStep (n + 1)) o.begun (begun_entries os)
-          (subst (AllByRecursion (FitsStep (n + 1))) (sym b.begun) (fit_from plans (n + 1) m 0 o.entry.place b.more (λ j.
+          (subst (AllByRecursion (FitsStep (n + 1))) (sym b.begun) (fit_from plans now.time (n + 1) m 0 o.entry.place b.more (λ j.
           made_on n (n + 1) m (2 ^ 64 - 1 - (n + 1)) j o.entry.place (omega arith) (omega (arith, at, small)) (subst (λ (k : ℕ). WasMade n k o.entry.place) (sym at) f.made))))
           (each_fit os each.1 (λ u there. inside u (later u o os there)))
 
@@ -183,14 +187,14 @@ module _ (now : Now) (plans : List Plan) (inserted : Bool) (n : ℕ) (all left m
         (good_behind order.every order.each (subst (AllByRecursion (Good now plans)) (sym order.entries) (good_all now plans all waits asked)))
         (good_from now plans n 0 [] carried.roots carried.asked))
 
-    pub waits_behind : waits_of grown ≡ map (wake_patterns_of plans) (items_of grown)
+    pub waits_behind : AllByRecursion (λ x. IsWaitOf plans x.wait x.instance) (all_listed grown)
     waits_behind = good_waits now plans grown good_grown
 
     pub asked_behind : AllByRecursion (CanAskOf (guards_at now.tables.now) plans) (items_of grown)
     asked_behind = good_asked now plans grown good_grown
 
     grown_items : items_of grown ≡ items_of (entries_behind order.every) ++ carried.roots
-    grown_items = ap items_of order.are ∙ items_append (entries_behind order.every) anew ∙ ap (λ l. items_of (entries_behind order.every) ++ l) (entries_items plans [] n 0 carried.roots)
+    grown_items = ap items_of order.are ∙ items_append (entries_behind order.every) anew ∙ ap (λ l. items_of (entries_behind order.every) ++ l) (entries_items plans now.time [] n 0 carried.roots)
 
     part_items : (b : Bool) (x : Entry Instance) (others : List (Entry Instance)) → items_of (cond b (x ∷ []) [] ++ others) ≡ cond b (x.item ∷ []) [] ++ items_of others
     part_items true x others = refl
@@ -199,45 +203,42 @@ module _ (now : Now) (plans : List Plan) (inserted : Bool) (n : ℕ) (all left m
     -- ---- of what it comes
 
     -- an instance that sleeps waits
-    waits_on : (e : Entry Instance) → Good now plans e → FitsStep n e → Q e → ComesOf now plans inserted e.item e.item
-    waits_on e good fits asleep =
+    waits_on : (e : Entry Instance) → Good now plans e → Q e → ComesOf now plans inserted e.item e.item
+    waits_on e good asleep =
         let can = good.1 in
-        let ends = fits.ends in
-        let before = asleep.in_time in
-        let apart : (now.time ≡ e.item.high) → ⊥ = λ same. omega (arith, same, ends, before) in
+        let before = before_last plans (listed_of e).wait e.item (moment_of inserted now.time) good.0 asleep.in_time in
         subst (λ (o : Option Plan). AtNode o (λ node. ((e.item ≡ e.item) × (has_deadline node ≡ true → is_forced_at inserted now.time e.item ≡ false))
         ⊎ ((part : Plan) × HasPart node part × IsBegunUnder now.ordered.now now.time now.position e.item.rule part e.item))) (sym can.found)
-        (inl (refl, λ due. and_right inserted (now.time == e.item.high) (ne_eqb now.time e.item.high apart)))
+        (inl (refl, λ due. not_forced inserted now.time e.item.high before))
 
-    comes_one : (o : EntryOutcome Instance) → IsOneOr Q walks.outcomes o → Good now plans o.entry → FitsStep n o.entry → (j : Instance)
+    comes_one : (o : EntryOutcome Instance) → IsOneOr Q walks.outcomes o → Good now plans o.entry → (j : Instance)
         → Contains (items_of (cond o.stays (o.entry ∷ []) [] ++ o.begun)) j → ComesOf now plans inserted o.entry.item j
-    comes_one o one good fits j there =
+    comes_one o one good j there =
         ⊎_elim
         (λ in_walk.
         let b = AllByRecursion-contains (EntryBecomes now plans inserted m) walks.outcomes o walks.each in_walk in
         b.come j (subst (λ (l : List Instance). Contains l j)
         (part_items o.stays o.entry o.begun ∙ ap (λ l. cond o.stays (o.entry.item ∷ []) [] ++ items_of l) b.begun ∙ ap (λ l. cond o.stays (o.entry.item ∷ []) [] ++ l)
-        (entries_items plans o.entry.place m 0 b.more)) there))
+        (entries_items plans now.time o.entry.place m 0 b.more)) there))
         (λ c.
         let stays = c.1 in
         let none = c.2 in
         let alone = subst (λ (l : List Instance). Contains l j) (λ i. items_of (cond (stays i) (o.entry ∷ []) [] ++ none i)) there in
-        ⊎_elim (λ same. subst (ComesOf now plans inserted o.entry.item) same (waits_on o.entry good fits c.0)) (λ no. absurd (none_in_nil j no)) (first_or_later j o.entry.item [] alone)) one
+        ⊎_elim (λ same. subst (ComesOf now plans inserted o.entry.item) same (waits_on o.entry good c.0)) (λ no. absurd (none_in_nil j no)) (first_or_later j o.entry.item [] alone)) one
 
     comes_behind : (every : List (EntryOutcome Instance)) → AllByRecursion (IsOneOr Q walks.outcomes) every → AllByRecursion (Good now plans) (map entry_of every)
-        → AllByRecursion (FitsStep n) (map entry_of every) → (j : Instance) → Contains (items_of (entries_behind every)) j
+        → (j : Instance) → Contains (items_of (entries_behind every)) j
         → (i : Instance) × Contains (items_of (map entry_of every)) i × ComesOf now plans inserted i j
-    comes_behind [] each good fits j there = absurd (none_in_nil j there)
-    comes_behind (o ∷ every) each good fits j there =
-        ⊎_elim (λ front. (o.entry.item, here o.entry.item (items_of (map entry_of every)), comes_one o each.0 good.0 fits.0 j front))
-        (λ back. let more = comes_behind every each.1 good.1 fits.1 j back in (more.0, later more.0 o.entry.item (items_of (map entry_of every)) more.1, more.2))
+    comes_behind [] each good j there = absurd (none_in_nil j there)
+    comes_behind (o ∷ every) each good j there =
+        ⊎_elim (λ front. (o.entry.item, here o.entry.item (items_of (map entry_of every)), comes_one o each.0 good.0 j front))
+        (λ back. let more = comes_behind every each.1 good.1 j back in (more.0, later more.0 o.entry.item (items_of (map entry_of every)) more.1, more.2))
         (Contains-append (items_of (cond o.stays (o.entry ∷ []) [] ++ o.begun)) (items_of (entries_behind every)) j
         (subst (λ (l : List Instance). Contains l j) (items_append (cond o.stays (o.entry ∷ []) [] ++ o.begun) (entries_behind every)) there))
 
     from_old : (j : Instance) → Contains (items_of (entries_behind order.every)) j → (i : Instance) × Contains (items_of all) i × ComesOf now plans inserted i j
     from_old j there =
-        let from = comes_behind order.every order.each (subst (AllByRecursion (Good now plans)) (sym order.entries) (good_all now plans all waits asked))
-        (subst (AllByRecursion (FitsStep n)) (sym order.entries) kept.fit) j there in
+        let from = comes_behind order.every order.each (subst (AllByRecursion (Good now plans)) (sym order.entries) (good_all now plans all waits asked)) j there in
         (from.0, subst (λ (l : List (Entry Instance)). Contains (items_of l) from.0) order.entries from.1, from.2)
 
     pub leads : NowLeads now plans inserted seen.instances (items_of grown)
@@ -246,44 +247,50 @@ module _ (now : Now) (plans : List Plan) (inserted : Bool) (n : ℕ) (all left m
         (λ j there. ⊎_elim (λ front. inl (from_old j front)) (λ back. inr (carried.come j back))
         (Contains-append (items_of (entries_behind order.every)) carried.roots j (subst (λ (l : List Instance). Contains l j) grown_items there)))
 
-    module _ (exists : AfterExists) (stay : SleepersStay) (trace : List Step) (is : IsNowOf now trace) where
+    module _ (exists : AfterExists) (stay : SleepersStay) (early_stay : EarlyStay) (trace : List Step) (is : IsNowOf now trace) where
       -- an entry that is asleep becomes itself
-      itself : (e : Entry Instance) → Good now plans e → FitsStep n e → Q e → After plans trace e.item (e.item ∷ [])
-      itself e good fits asleep =
+      itself : (e : Entry Instance) → Good now plans e → Q e → After plans trace e.item (e.item ∷ [])
+      itself e good asleep =
           let found = exists (guards_at now.tables.now) plans trace e.item good.1 in
-          let ends = fits.ends in
           let now_is = is.time in
-          let before = asleep.in_time in
-          subst (After plans trace e.item) (stay (guards_at now.tables.now) plans trace e.item good.1 (record {
+          let none = subst (HasNone asleep.patterns) (sym is.events) asleep.none in
+          let within = not_later inserted now.time e.item.high (before_last plans (listed_of e).wait e.item (moment_of inserted now.time) good.0 asleep.in_time) in
+          subst (After plans trace e.item) (⊎_elim
+          (λ open_is. stay (guards_at now.tables.now) plans trace e.item good.1
+          (record { patterns = asleep.patterns; wakes = sym (ap (λ (w : Wait). w.patterns) open_is) ∙ asleep.waits; none = none })
+          (not_over (node_of plans e.item) e.item (time_now trace) (omega (arith, within, now_is))) found.0 found.1)
+          (λ early_is.
+          let before = not_begun inserted now.time e.item (subst (λ (w : Wait). moment_of inserted now.time < w.until) early_is asleep.in_time) in
+          early_stay (guards_at now.tables.now) plans trace e.item good.1 (record {
             patterns = asleep.patterns;
-            wakes = sym good.0 ∙ asleep.waits;
-            none = subst (HasNone asleep.patterns) (sym is.events) asleep.none;
-          }) (not_over (node_of plans e.item) e.item (time_now trace) (omega (arith, ends, now_is, before))) found.0 found.1) found.1
+            wakes = sym (ap (λ (w : Wait). w.patterns) early_is) ∙ asleep.waits;
+            none = none;
+            before = omega (arith, before, now_is);
+          }) found.0 found.1) good.0) found.1
 
-      after_one : (o : EntryOutcome Instance) → IsOneOr Q walks.outcomes o → Good now plans o.entry → FitsStep n o.entry
-          → AreServed plans inserted trace (o.entry.item ∷ []) → After plans trace o.entry.item (items_of (cond o.stays (o.entry ∷ []) [] ++ o.begun))
-      after_one o one good fits served =
+      after_one : (o : EntryOutcome Instance) → IsOneOr Q walks.outcomes o → Good now plans o.entry → AreServed plans inserted trace (o.entry.item ∷ []) → After plans trace o.entry.item (items_of (cond o.stays (o.entry ∷ []) [] ++ o.begun))
+      after_one o one good served =
           ⊎_elim
           (λ there.
           let b = AllByRecursion-contains (EntryBecomes now plans inserted m) walks.outcomes o walks.each there in
           subst (After plans trace o.entry.item)
           (sym (part_items o.stays o.entry o.begun ∙ ap (λ l. cond o.stays (o.entry.item ∷ []) [] ++ items_of l) b.begun ∙ ap (λ l. cond o.stays (o.entry.item ∷ []) [] ++ l)
-          (entries_items plans o.entry.place m 0 b.more)))
+          (entries_items plans now.time o.entry.place m 0 b.more)))
           (b.after trace is served))
           (λ c.
           let stays = c.1 in
           let none = c.2 in
-          subst (After plans trace o.entry.item) (λ i. items_of (cond (sym stays i) (o.entry ∷ []) [] ++ sym none i)) (itself o.entry good fits c.0)) one
+          subst (After plans trace o.entry.item) (λ i. items_of (cond (sym stays i) (o.entry ∷ []) [] ++ sym none i)) (itself o.entry good c.0)) one
 
       gathered : (every : List (EntryOutcome Instance)) → AllByRecursion (IsOneOr Q walks.outcomes) every → AllByRecursion (Good now plans) (map entry_of every)
-          → AllByRecursion (FitsStep n) (map entry_of every) → AreServed plans inserted trace (items_of (map entry_of every))
+          → AreServed plans inserted trace (items_of (map entry_of every))
           → Gathers (After plans trace) (items_of (map entry_of every)) (items_of (entries_behind every))
-      gathered [] each good fits served = refl
-      gathered (o ∷ every) each good fits served = (
+      gathered [] each good served = refl
+      gathered (o ∷ every) each good served = (
         items_of (cond o.stays (o.entry ∷ []) [] ++ o.begun),
         items_of (entries_behind every),
-        after_one o each.0 good.0 fits.0 (served.0, tt),
-        gathered every each.1 good.1 fits.1 served.1,
+        after_one o each.0 good.0 (served.0, tt),
+        gathered every each.1 good.1 served.1,
         items_append (cond o.stays (o.entry ∷ []) [] ++ o.begun) (entries_behind every),
       )
 
@@ -295,7 +302,6 @@ module _ (now : Now) (plans : List Plan) (inserted : Bool) (n : ℕ) (all left m
             carried.roots,
             subst (λ (l : List (Entry Instance)). Gathers (After plans trace) (items_of l) (items_of (entries_behind order.every))) order.entries
                 (gathered order.every order.each (subst (AllByRecursion (Good now plans)) (sym order.entries) (good_all now plans all waits asked))
-                (subst (AllByRecursion (FitsStep n)) (sym order.entries) kept.fit)
                 (subst (λ (l : List (Entry Instance)). AreServed plans inserted trace (items_of l)) (sym order.entries) served)),
             carried.by_roots trace is,
             grown_items,

@@ -1,7 +1,7 @@
 -- The words in which the proofs of this crate speak: those of std, of the crates below and of its own specs.
-pub use Rattle.std.proofs.Common.{Bool, Contains, List, None, Option, Some, [], ap, append_assoc, arith, cond, drop, false, get_or, inl, inr, length, length-append, map, refl, subst, subst₂, suc, sym}
-pub use Rattle.std.proofs.Common.{take, true, zero, ℕ, ⊎_elim, ◌++◌, ◌+◌, ◌-◌, ◌<◌, ◌==◌, ◌^◌, ◌∙◌, ◌∷◌, ◌≡◌, ◌≤◌, ◌⊎◌}
-pub use Rattle.std.proofs.lemmas.Bool.{and_right, eqb-true, ne_eqb}
+pub use Rattle.std.proofs.Common.{Bool, Contains, List, None, Option, Some, [], ap, append_assoc, arith, cond, drop, false, get_or, nat_lt, inl, inr, length, length-append, map, refl, subst, subst₂, suc, sym}
+pub use Rattle.std.proofs.Common.{take, true, zero, ℕ, ⊎_elim, ◌++◌, ◌+◌, ◌-◌, ◌<◌, ◌&&◌, ◌==◌, ◌^◌, ◌∙◌, ◌∷◌, ◌≡◌, ◌≤◌, ◌⊎◌}
+pub use Rattle.std.proofs.lemmas.Bool.{eqb-true, ne_eqb}
 pub use Rattle.std.proofs.lemmas.List.{append-nil, map-append}
 pub use Rattle.std.proofs.lemmas.List.Sums.{sum_by-append}
 pub use Rattle.std.proofs.lemmas.Option.{none-some}
@@ -32,13 +32,15 @@ pub use Rattle.obligations.specs.machine.Successors.{ComesOf, NowLeads}
 pub use Rattle.obligations.specs.machine.TriggeredNodes.{IsBegunUnder}
 pub use Rattle.obligations.specs.meaning.Obligations.{AreGuardRows, Begun, Gathers, IfElse, LacksNothing, LiteralUnless, Missing, OfEvent, TakesOrElse, TakesPresent, cause_literal, last_position}
 pub use Rattle.obligations.specs.meaning.Obligations.{suppress_literal, time_now}
-pub use Rattle.obligations.specs.meaning.Pending.{After, AtNode, BecomesAt, MissesAt, MissingOf, PendingAfter, node_of}
+pub use Rattle.obligations.specs.meaning.Pending.{After, AtNode, BecomesAt, IsNowIn, MissesAt, MissingOf, PendingAfter, node_of}
 pub use Rattle.past_state.specs.machine.GuardPlaces.{guards_at}
 pub use Rattle.pending.specs.machine.EntrySteps.{CarriesPending, EntryBecomes, WalksEntries}
-pub use Rattle.pending.specs.machine.InstancePatterns.{InstanceSleeps, IsWindowNotOver, wake_patterns_at, wake_patterns_of}
-pub use Rattle.pending.specs.machine.Laws.{SleepersStay}
-pub use Rattle.pending.specs.machine.PendingEntries.{ArePendingEntries, FitsStep, entries_from, entry_at, items_of, waits_of}
-pub use Rattle.pending.specs.machine.PendingLists.{IsPendingListOf, PendingList, SleepsAt}
+pub use Rattle.pending.specs.machine.InstancePatterns.{InstanceIsEarly, InstanceSleeps, IsWindowNotOver, early_patterns_at, early_patterns_of, wake_patterns_at, wake_patterns_of}
+pub use Rattle.pending.specs.machine.Laws.{EarlyStay, SleepersStay}
+pub use Rattle.pending.specs.machine.PendingEntries.{ArePendingEntries, FitsStep, all_listed, entries_from, entry_at, items_of, listed_of}
+pub use Rattle.pending.specs.machine.Moments.{moment_of}
+pub use Rattle.pending.specs.machine.PendingLists.{IsPendingListOf, PendingList, listed_instances}
+pub use Rattle.pending.specs.machine.Waits.{IsWaitOf, Listed, SleepsNow, Wait, early_until, open_until, patterns_at, until_at}
 pub use Rattle.plan_terms.proofs.ScopeLaws.{AtEach-weaker}
 pub use Rattle.plan_terms.specs.machine.StoredPlans.{plan_of}
 pub use Rattle.plan_terms.specs.meaning.Plans.{AlwaysPlan, Both, CausePlan, Either, EventuallyPlan, Guarded, NextPlan, Plan, SuppressPlan, TestOr, UntilPlan, has_deadline}
@@ -52,4 +54,4 @@ pub use Rattle.sleepers.specs.machine.Laws.{StepsCanPutIn, StepsGoInOrder}
 pub use Rattle.sleepers.specs.machine.Patterns.{HasNone}
 pub use Rattle.sleepers.specs.machine.Places.{IsPlaceBefore, Place, WasMade, beginning_at, places_from}
 pub use Rattle.wake_patterns.specs.machine.Laws.{BringsFresh}
-pub use Rattle.wake_patterns.specs.machine.WakePatterns.{fails_without, holds_without, met_by, missed_by, pattern_of, wake_patterns}
+pub use Rattle.wake_patterns.specs.machine.WakePatterns.{early_patterns, fails_without, holds_without, met_by, missed_by, pattern_of, wake_patterns}

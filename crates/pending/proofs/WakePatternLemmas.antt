@@ -4,7 +4,7 @@ use Rattle.pending.proofs.Vocabulary.{here, Valuation, values_of_terms, with_val
 use Rattle.pending.proofs.Vocabulary.{EventuallyPlan, AlwaysPlan, UntilPlan, NextPlan, HasNone, Pattern, CanAskNode, CanAskOf, Begun, LacksNothing, TakesOrElse, TakesPresent, IfElse, time_now}
 use Rattle.pending.proofs.Vocabulary.{Missing, OfEvent, LiteralUnless, cause_literal, suppress_literal, AreGuardRows, Gathers, last_position, After, AtNode, BecomesAt, MissesAt, MissingOf, node_of}
 use Rattle.pending.proofs.Vocabulary.{IsWindowNotOver, InstanceSleeps, wake_patterns_at, wake_patterns_of, pattern_of, met_by, missed_by, wake_patterns, fails_without, holds_without, BringsFresh, AtEach-weaker}
-use Rattle.pending.proofs.Vocabulary.{Instance, Literal}
+use Rattle.pending.proofs.Vocabulary.{Instance, Literal, IsNowIn, InstanceIsEarly, early_patterns, early_patterns_at, early_patterns_of, ◌<◌}
 use Rattle.wake_patterns.proofs.PatternLemmas.{Extends, AreUnbound, BindsNew, BringsNew, plan_brings_new, events, not_there, one_of, two_of, of_narrower_some, under_row, guard_fails, guard_holds}
 
 -- ---- lists of which nothing is left
@@ -178,6 +178,29 @@ module _ (trace : List Step) (i : Instance) where
       (λ m. stays_alone after m.1.0 m.1.2 (begins_nothing v trace left v itself new.0 ys l back i.rule m.1.0 m.1.1)) becomes
   stays_at node new ps is none in_time after becomes = absurd (none-some ps is)
 
+  -- ---- before its window
+
+  module _ (before : time_now trace < i.low) where
+    not_in : IsNowIn trace i → ⊥
+    not_in within = let low = within.0 in omega (arith, low, before)
+
+    early_misses_at : (node : Plan) → BringsNew v node → (ps : List Pattern) → early_patterns v node ≡ Some ps → HasNone ps (events v trace (last_position trace))
+        → (literals : List Literal) → MissesAt trace node i false literals → literals ≡ []
+    early_misses_at (EventuallyPlan node place low high body) new ps is none literals missing = missing
+    early_misses_at (AlwaysPlan node place low high body) new ps is none literals missing = ⊎_elim (λ m. absurd (not_in m.0)) (λ m. m.1) missing
+    early_misses_at (UntilPlan node place low high left right) new ps is none literals missing =
+        ⊎_elim (λ m. m.2) (λ m. misses_nothing v trace left v itself new.0 ps is none literals m.1) missing
+    early_misses_at node new ps is none literals missing = absurd (none-some ps is)
+
+    early_stays_at : (node : Plan) → BringsNew v node → (ps : List Pattern) → early_patterns v node ≡ Some ps → HasNone ps (events v trace (last_position trace))
+        → (after : List Instance) → BecomesAt trace node i after → after ≡ i ∷ []
+    early_stays_at (EventuallyPlan node place low high body) new ps is none after becomes = ⊎_elim (λ m. absurd (not_in m.0)) (λ m. m.1) becomes
+    early_stays_at (AlwaysPlan node place low high body) new ps is none after becomes =
+        ⊎_elim (λ m. m.1) (λ n. ⊎_elim (λ m. absurd (not_in m.0)) (λ m. let low = m.0 in absurd (omega (arith, low, before))) n) becomes
+    early_stays_at (UntilPlan node place low high left right) new ps is none after becomes =
+        ⊎_elim (λ m. absurd (not_in m.0)) (λ m. stays_alone after m.1.0 m.1.2 (begins_nothing v trace left v itself new.0 ps is none i.rule m.1.0 m.1.1)) becomes
+    early_stays_at node new ps is none after becomes = absurd (none-some ps is)
+
 -- a node that can be asked brings variables that are new
 brings_fresh : (guards : List (Formula × List VarId)) (plan : Plan) (scope : List VarId) → CanAskNode guards plan scope
     → BringsFresh plan scope
@@ -212,4 +235,17 @@ module _ (guards : List (Formula × List VarId)) (plans : List Plan) (trace : Li
   stay s in_time after becomes =
       stays_at trace i can.node new_parts s.patterns (wakes_at s.patterns s.wakes) s.none
       (subst (λ (o : Option Plan). IsWindowNotOver o i (time_now trace)) can.found in_time) after
+      (subst (λ (o : Option Plan). AtNode o (λ node. BecomesAt trace node i after)) can.found becomes)
+
+  early_at : (ps : List Pattern) → early_patterns_of plans i ≡ Some ps → early_patterns i.valuation can.node ≡ Some ps
+  early_at ps is = ap (λ o. early_patterns_at o i) (sym can.found) ∙ is
+
+  pub early_miss_nothing : InstanceIsEarly plans trace i → (literals : List Literal) → MissingOf plans trace i false literals → literals ≡ []
+  early_miss_nothing e literals missing =
+      early_misses_at trace i e.before can.node new_parts e.patterns (early_at e.patterns e.wakes) e.none literals
+      (subst (λ (o : Option Plan). AtNode o (λ node. MissesAt trace node i false literals)) can.found missing)
+
+  pub early_stay : InstanceIsEarly plans trace i → (after : List Instance) → After plans trace i after → after ≡ i ∷ []
+  early_stay e after becomes =
+      early_stays_at trace i e.before can.node new_parts e.patterns (early_at e.patterns e.wakes) e.none after
       (subst (λ (o : Option Plan). AtNode o (λ node. BecomesAt trace node i after)) can.found becomes)

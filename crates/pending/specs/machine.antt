@@ -1,4 +1,6 @@
 pub mod InstancePatterns
+pub mod Moments
+pub mod Waits
 pub mod PendingEntries
 pub mod EntrySteps
 pub mod Laws

@@ -4,7 +4,11 @@ ghost use Rattle.plan_terms.specs.machine.StoredPlans.{plan_of};
 ghost use Rattle.pending.specs.machine.PendingEntries.{entries_from, entry_at, items_of};
 ghost use Rattle.sleepers.specs.machine.Entries.{shown};
 ghost use Rattle.pending.specs.machine.InstancePatterns.{wake_patterns_of};
+ghost use Rattle.pending.specs.machine.InstancePatterns as waiting;
+ghost use Rattle.pending.specs.machine.Waits.{patterns_at};
+ghost use Rattle.pending.specs.machine.Waits as waits;
 
+use crate::moments::moment_of;
 use enf_data::memory::NoMemory;
 use obligations::Instance;
 use obligations::pending_parts::node_in;
@@ -12,10 +16,24 @@ use plan_terms::Plan;
 use sleepers::{Beginning, Entry, Patterns, Place};
 use std::alloc::Global;
 use valuations::Frame;
-use wake_patterns::patterns_of;
+use wake_patterns::{early_patterns_of, patterns_of};
 
-// The patterns of the events that can change the instance.
+// The patterns of the events that can change an instance that is filed at this time.
 fn patterns_in(
+    alloc: Global,
+    plans: &[Plan],
+    time: u64,
+    instance: &Instance,
+) -> Result<Option<Patterns>, NoMemory>
+    ensures { IfOk result (λ found. found ≡ patterns_at (map plan_of plans.now) time instance.now) }
+{
+    if time < instance.low {
+        return early_patterns_in(alloc, plans, instance);
+    }
+    open_patterns_in(alloc, plans, instance)
+}
+
+fn open_patterns_in(
     alloc: Global,
     plans: &[Plan],
     instance: &Instance,
@@ -26,6 +44,30 @@ fn patterns_in(
         Some(node) => patterns_of(alloc, node, &Frame::Whole(&instance.valuation)),
         None => Ok(None),
     }
+}
+
+fn early_patterns_in(
+    alloc: Global,
+    plans: &[Plan],
+    instance: &Instance,
+) -> Result<Option<Patterns>, NoMemory>
+    ensures { IfOk result (λ found. found ≡ waiting.early_patterns_of (map plan_of plans.now) instance.now) }
+{
+    match node_in(plans, instance) {
+        Some(node) => early_patterns_of(alloc, node, &Frame::Whole(&instance.valuation)),
+        None => Ok(None),
+    }
+}
+
+// The moment up to which an instance waits that is filed at this time.
+pub fn until_at(time: u64, instance: &Instance) -> u64
+    ensures { result ≡ waits.until_at time instance.now }
+{
+    let last = moment_of(true, instance.high);
+    if time < instance.low {
+        return moment_of(false, instance.low).min(last);
+    }
+    last
 }
 
 // The place that goes on from one at a beginning.
@@ -40,37 +82,39 @@ fn place_behind(alloc: Global, place: &[Beginning], beginning: Beginning) -> Res
     Ok(Place::from_vec(beginnings))
 }
 
-// The entry of an instance that goes on from a place at a beginning.
+// The entry of an instance that is filed at this time, and goes on from a place at a beginning.
 pub fn entry_behind(
     alloc: Global,
     plans: &[Plan],
+    time: u64,
     place: &[Beginning],
     beginning: Beginning,
     instance: Instance,
 ) -> Result<Entry<Instance>, NoMemory>
     ensures { IfOk result
-        (λ entry. entry ≡ entry_at (map plan_of plans.now) (place.now ++ beginning ∷ []) instance) }
+        (λ entry. entry ≡ entry_at (map plan_of plans.now) time (place.now ++ beginning ∷ []) instance) }
 {
-    let patterns = patterns_in(alloc, plans, &instance)?;
+    let patterns = patterns_in(alloc, plans, time, &instance)?;
     Ok(Entry {
         place: place_behind(alloc, place, beginning)?,
         patterns,
-        end: instance.high,
+        end: until_at(time, &instance),
         item: instance,
     })
 }
 
-// Puts the entries of instances last that were begun at one beginning after a place.
+// Puts the entries of instances last that are filed at this time, of one beginning after a place.
 pub fn put_begun(
     alloc: Global,
     plans: &[Plan],
+    time: u64,
     place: &[Beginning],
     number: u64,
     instances: Vec<Instance>,
     into: &mut Vec<Entry<Instance>>,
 ) -> Result<(), NoMemory>
     ensures { OnOk result (into.new.items
-        ≡ into.old.items ++ entries_from (map plan_of plans.now) place.now number 0 instances.items) }
+        ≡ into.old.items ++ entries_from (map plan_of plans.now) time place.now number 0 instances.items) }
 {
     if instances.is_empty() {
         return Ok(());
@@ -78,7 +122,7 @@ pub fn put_begun(
     let mut among = 0;
     for instance in instances {
         let beginning = Beginning { number, among };
-        into.push(entry_behind(alloc, plans, place, beginning, instance)?)?;
+        into.push(entry_behind(alloc, plans, time, place, beginning, instance)?)?;
         among += 1;
     }
     Ok(())

@@ -6,6 +6,7 @@
 mod deadlines;
 mod entries;
 pub mod laws;
+mod moments;
 mod pending;
 mod progress_all;
 

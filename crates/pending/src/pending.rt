@@ -15,10 +15,13 @@ ghost use Rattle.obligations.specs.machine.PlanClasses.{PlansStand};
 ghost use Rattle.obligations.specs.machine.AskablePlans.{CanAskOf, CanAskRoots};
 ghost use Rattle.deadline_queue.specs.machine.Queues.{IsLeastOf};
 ghost use Rattle.obligations.specs.declared.present_step.TheConstants.{MOST_TIME};
-ghost use Rattle.pending.specs.machine.PendingLists.{IsPendingListOf, SleepsAt};
+ghost use Rattle.pending.specs.machine.Moments as moments;
+ghost use Rattle.pending.specs.machine.PendingLists.{IsPendingListOf, listed_instances};
+ghost use Rattle.pending.specs.machine.Waits.{Listed, SleepsNow};
 
 use crate::entries::items_in;
 use crate::laws::sleepers_stay;
+use crate::moments::moment_of;
 use crate::progress_all::{carry, put_each, put_listed};
 use deadline_queue::DeadlineQueue;
 use enf_data::Event;
@@ -33,8 +36,8 @@ use sleepers::laws::steps_go_in_order;
 use std::alloc::Global;
 use std::marker::Model;
 
-/// Pending instances in the order in which they were begun, with the deadlines among the ends of their windows and the
-/// patterns of the events that each waits for.
+/// Pending instances in the order in which they were begun, with the deadlines among the ends of their windows, and
+/// each with the events and the moment that it waits for.
 #[derive(Drop)]
 pub struct Pending {
     sleepers: Sleepers<Instance>,
@@ -45,7 +48,7 @@ pub struct Pending {
 
 impl Model for Pending {
     ghost use Rattle.deadline_queue.specs.machine.Queues.{IsDeadlineQueue, held_deadlines};
-    ghost use Rattle.pending.specs.machine.PendingEntries.{ArePendingEntries, items_of, waits_of};
+    ghost use Rattle.pending.specs.machine.PendingEntries.{ArePendingEntries, all_listed, items_of};
     ghost use Rattle.pending.specs.machine.PendingLists.{PendingList, pending_code};
 
     ghost Value = { PendingList };
@@ -55,7 +58,7 @@ impl Model for Pending {
     ghost view = { λ p. record {
       instances = items_of p.sleepers.entries;
       deadlines = held_deadlines p.deadlines;
-      waits = waits_of p.sleepers.entries;
+      listed = all_listed p.sleepers.entries;
     } };
 
     ghost invariant = { λ p. IsDeadlineQueue p.deadlines × ArePendingEntries p.steps p.sleepers.entries };
@@ -76,14 +79,20 @@ impl Pending {
         }
     }
 
-    /// Those of a list, with the deadlines that they have and what they wait for.
-    pub fn from_list(alloc: Global, plans: &[Plan], list: Instances) -> Result<Pending, NoMemory>
+    /// Those of a list, with the deadlines that they have and what they wait for at a time. Each of them may wait as at
+    /// another time; then it is looked at once more.
+    pub fn from_list(
+        alloc: Global,
+        plans: &[Plan],
+        time: u64,
+        list: Instances,
+    ) -> Result<Pending, NoMemory>
         ensures instances { IfOk result (λ p. p.instances ≡ list) }
         ensures kept { IfOk result (IsPendingListOf (map plan_of plans.now)) }
     {
         let mut sleepers = Sleepers::new(alloc);
         let mut deadlines = DeadlineQueue::new(alloc);
-        put_listed(alloc, plans, list, &mut sleepers, &mut deadlines)?;
+        put_listed(alloc, plans, time, list, &mut sleepers, &mut deadlines)?;
         Ok(Pending {
             sleepers,
             deadlines,
@@ -107,20 +116,22 @@ impl Pending {
         duplicates(alloc, instances.as_slice())
     }
 
-    /// All instances but those that sleep at a step of this time with these events, in order.
+    /// All instances but those that sleep at a step of this time with these events, in order. At the end of its
+    /// window an instance is awake where the step is inserted.
     pub fn woken(
         &self,
         alloc: Global,
         events: &[Event],
         time: u64,
+        inserted: bool,
     ) -> Result<Vec<&Instance>, NoMemory>
-        ensures { IfOk result (λ woken. (plans : List AnyPlan) → IsPendingListOf plans self.now
-            → AllButThose (SleepsAt plans events.now time) self.now.instances (shown woken.items)) }
+        ensures { IfOk result (λ woken. (awake : List Listed)
+            × AllButThose (SleepsNow events.now (moments.moment_of inserted time)) self.now.listed awake
+            × (shown woken.items ≡ listed_instances awake)) }
     {
-        if self.len() == 0 {
-            return Ok(Vec::new(alloc));
-        }
-        let entries = self.sleepers.woken(alloc, events, time)?;
+        let entries = self
+            .sleepers
+            .woken(alloc, events, moment_of(inserted, time))?;
         items_in(alloc, entries.as_slice())
     }
 

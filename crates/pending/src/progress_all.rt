@@ -1,6 +1,10 @@
 //! A step over what is pending.
 ghost use Rattle.std.specs.Prelude.{◌≡◌, ◌+◌, ◌-◌, ◌<◌, ◌≤◌, ◌^◌, ℕ, ◌++◌, ◌∷◌};
-ghost use Rattle.std.specs.Prelude.{[], false, true, drop, IfOk, List, OnErr, OnOk, length, map};
+ghost use Rattle.std.specs.Prelude.{[], Contains, cond, false, true, drop, IfOk, List, OnErr, OnOk, length, map};
+ghost use Rattle.enf_data.specs.declared.steps.Step.{Step};
+ghost use Rattle.obligations.specs.machine.PresentStep.{IsNowOf};
+ghost use Rattle.obligations.specs.machine.Progress.{BecomesOne};
+ghost use Rattle.obligations.specs.machine.Successors.{ComesOf};
 ghost use Rattle.std.specs.List.{AllByRecursion};
 ghost use Rattle.deadline_queue.specs.machine.Queues.{IsDeadlineQueue, held_count};
 ghost use Rattle.plan_terms.specs.machine.StoredPlans.{plan_of};
@@ -10,6 +14,7 @@ ghost use Rattle.obligations.specs.machine.AskablePlans.{CanAskOf, CanAskRoots};
 ghost use Rattle.obligations.specs.machine.Deadlines.{count_due};
 ghost use Rattle.obligations.specs.declared.present_step.TheConstants.{MOST_TIME};
 ghost use Rattle.pending.specs.machine.EntrySteps.{EntryBecomes, CarriesPending, WalksEntries};
+ghost use Rattle.pending.specs.machine.Moments as moments;
 ghost use Rattle.pending.specs.machine.PendingEntries.{ArePendingEntries, FitsStep, entries_from, items_of};
 ghost use Rattle.sleepers.specs.machine.Entries.{HasOneMoreEntry, IsAllBut, IsAsleep, IsFreePlace};
 ghost use Rattle.sleepers.specs.machine.EntrySteps.{CanPutIn, PutsInEntries};
@@ -17,11 +22,13 @@ ghost use Rattle.sleepers.specs.declared.entries.Entry.{Entry as AnyEntry};
 ghost use Rattle.obligations.specs.declared.instances.Instance.{Instance as AnyInstance};
 
 use crate::deadlines::{hold, let_go};
-use crate::entries::{entry_behind, put_begun};
+use crate::entries::{entry_behind, put_begun, until_at};
+use crate::moments::moment_of;
 use deadline_queue::DeadlineQueue;
+use enf_data::items::Duplicate;
 use enf_data::memory::NoMemory;
 use obligations::instances::Instances;
-use obligations::progress_one::{begun_by_roots, outcome_of};
+use obligations::progress_one::{Outcome, begun_by_roots, outcome_of};
 use obligations::{Instance, Now};
 use plan_terms::Plan;
 use sleepers::{Beginning, Entry, Sleepers};
@@ -58,7 +65,7 @@ pub fn carry(
     let later = number_for_pending(number);
     let mut more = carry_awake(alloc, plans, now, inserted, later, sleepers, deadlines)?;
     let roots = begun_by_roots(alloc, plans, now)?;
-    put_begun(alloc, plans, &[], number, roots, &mut more)?;
+    put_begun(alloc, plans, now.time, &[], number, roots, &mut more)?;
     Ok(more)
 }
 
@@ -88,7 +95,7 @@ fn carry_awake(
     requires held { (deadline : ℕ) → held_count deadlines.old deadline
         ≡ count_due (map plan_of plans.now) (items_of sleepers.old.entries) deadline }
     ensures walks { IfOk result (λ more. (first : List (AnyEntry AnyInstance))
-        × IsAllBut (IsAsleep now.now.events.now now.now.time) sleepers.old.entries first
+        × IsAllBut (IsAsleep now.now.events.now (moments.moment_of inserted now.now.time)) sleepers.old.entries first
         × WalksEntries now.now (map plan_of plans.now) inserted later sleepers.old.entries first
         sleepers.new.entries [] more.items) }
     ensures kept { (steps : ℕ) → ArePendingEntries steps sleepers.old.entries
@@ -97,7 +104,7 @@ fn carry_awake(
         ≡ count_due (map plan_of plans.now) (items_of sleepers.new.entries) deadline) }
     ensures queue { IsDeadlineQueue deadlines.new }
 {
-    sleepers.wake(alloc, now.events.as_slice(), now.time)?;
+    sleepers.wake(alloc, now.events.as_slice(), moment_of(inserted, now.time))?;
     let mut more = Vec::new(alloc);
     while let Some(entry) = sleepers.peek() {
         let stays = carry_entry(alloc, plans, entry, now, inserted, later, &mut more)?;
@@ -124,16 +131,64 @@ fn carry_entry(
         (record { entry = entry.now; stays = stays; begun = more })
         × (into.new.items ≡ into.old.items ++ more)) }
 {
-    let outcome = outcome_of(alloc, plans, &entry.item, now, inserted)?;
+    let outcome = outcome_in(alloc, plans, entry, now, inserted)?;
     put_begun(
         alloc,
         plans,
+        now.time,
         entry.place.as_slice(),
         later,
         outcome.begun,
         into,
     )?;
     Ok(outcome.stays)
+}
+
+// What the instance of an entry becomes. Where it stays, but would wait until another moment if it were filed now, since
+// its window has begun, it goes with the entry and is the first of what is begun.
+fn outcome_in(
+    alloc: Global,
+    plans: &[Plan],
+    entry: &Entry<Instance>,
+    now: &Now<'_>,
+    inserted: bool,
+) -> Result<Outcome, NoMemory>
+    requires named { PlansStand (map plan_of plans.now) }
+    requires asked { CanAskOf (guards_at now.now.tables.now) (map plan_of plans.now) entry.now.item }
+    requires in_time { now.now.time ≤ MOST_TIME }
+    ensures after { IfOk result (λ o. (trace : List Step) → IsNowOf now.now trace
+        → BecomesOne (map plan_of plans.now) inserted entry.now.item trace
+        (cond o.stays (entry.now.item ∷ []) [] ++ o.begun.items)) }
+    ensures asked { IfOk result (λ o. AllByRecursion
+        (CanAskOf (guards_at now.now.tables.now) (map plan_of plans.now)) o.begun.items) }
+    ensures come { IfOk result (λ o. (j : AnyInstance)
+        → Contains (cond o.stays (entry.now.item ∷ []) [] ++ o.begun.items) j
+        → ComesOf now.now (map plan_of plans.now) inserted entry.now.item j) }
+{
+    let outcome = outcome_of(alloc, plans, &entry.item, now, inserted)?;
+    if outcome.stays && entry.end != until_at(now.time, &entry.item) {
+        let begun = behind(alloc, &entry.item, outcome.begun)?;
+        return Ok(Outcome {
+            stays: false,
+            begun,
+        });
+    }
+    Ok(outcome)
+}
+
+// An instance, and others behind it.
+fn behind(
+    alloc: Global,
+    instance: &Instance,
+    others: Vec<Instance>,
+) -> Result<Vec<Instance>, NoMemory>
+    ensures { IfOk result (λ all. all.items ≡ instance.now ∷ others.items) }
+{
+    let mut others = others;
+    let mut all = Vec::with_capacity(alloc, others.len() + 1)?;
+    all.push(instance.duplicate(alloc)?)?;
+    all.append(&mut others)?;
+    Ok(all)
 }
 
 // Passes the entry at which the walk stands, or takes it out with its deadline.
@@ -197,11 +252,12 @@ pub fn put_each(
     Ok(())
 }
 
-// Puts the instances of a list in as begun at the first beginning, and holds their deadlines. They go in from the last
+// Puts the instances of a list in, filed at this time, as begun at the first beginning, and holds their deadlines. They go in from the last
 // to the first: what was begun later ends later mostly, and a tree finds what comes before all that it has at once.
 pub fn put_listed(
     alloc: Global,
     plans: &[Plan],
+    time: u64,
     list: Instances,
     sleepers: &mut Sleepers<Instance>,
     deadlines: &mut DeadlineQueue,
@@ -210,7 +266,7 @@ pub fn put_listed(
     requires queue { IsDeadlineQueue deadlines.old }
     requires held { (deadline : ℕ) → held_count deadlines.old deadline
         ≡ count_due (map plan_of plans.now) (items_of sleepers.old.entries) deadline }
-    ensures entries { OnOk result (sleepers.new.entries ≡ entries_from (map plan_of plans.now) [] 0 0 list) }
+    ensures entries { OnOk result (sleepers.new.entries ≡ entries_from (map plan_of plans.now) time [] 0 0 list) }
     ensures kept { OnOk result (ArePendingEntries 1 sleepers.new.entries) }
     ensures held { OnOk result ((deadline : ℕ) → held_count deadlines.new deadline
         ≡ count_due (map plan_of plans.now) (items_of sleepers.new.entries) deadline) }
@@ -219,7 +275,8 @@ pub fn put_listed(
     let mut instances = list.into_vec();
     while let Some(instance) = instances.pop() {
         let among = instances.len() as u64;
-        let entry = entry_behind(alloc, plans, &[], Beginning { number: 0, among }, instance)?;
+        let beginning = Beginning { number: 0, among };
+        let entry = entry_behind(alloc, plans, time, &[], beginning, instance)?;
         put_one(plans, entry, sleepers, deadlines)?;
     }
     Ok(())

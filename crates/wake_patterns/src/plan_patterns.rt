@@ -26,6 +26,21 @@ pub fn patterns_of(alloc: Global, node: &Plan, v: &Frame<'_>) -> Result<Option<P
     }
 }
 
+/// The patterns of the events that can change what it asks before its window begins.
+pub fn early_patterns_of(
+    alloc: Global,
+    node: &Plan,
+    v: &Frame<'_>,
+) -> Result<Option<Patterns>, NoMemory>
+    ensures { IfOk result (λ found. found ≡ waking.early_patterns (bound_in v.now) (plan_of node.now)) }
+{
+    match node {
+        Plan::Eventually { .. } | Plan::Always { .. } => Ok(Some(Items::from_vec(Vec::new(alloc)))),
+        Plan::Until { left, .. } => missed_by(alloc, left, v),
+        _ => Ok(None),
+    }
+}
+
 // Patterns and those without which the plan holds, where both have some. That of an atom goes straight after.
 fn with_missed(
     alloc: Global,

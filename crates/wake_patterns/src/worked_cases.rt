@@ -7,7 +7,7 @@ ghost use Rattle.plan_terms.specs.machine.Cases.{cause_p, each_soon, plan_cause_
 ghost use Rattle.sleepers.specs.machine.Patterns.{HasNone, MatchesPattern};
 ghost use Rattle.wake_patterns.specs.machine.Cases.{no_q, p_alone, p_open, q_alone, q_fixed, q_open};
 ghost use Rattle.wake_patterns.specs.machine.Cases.{value_one, value_two, x_below_two};
-ghost use Rattle.wake_patterns.specs.machine.WakePatterns.{fails_without, holds_without, narrower, wake_patterns};
+ghost use Rattle.wake_patterns.specs.machine.WakePatterns.{early_patterns, fails_without, holds_without, narrower, wake_patterns};
 ghost use Rattle.enf_formula.specs.meaning.Satisfaction as formula;
 ghost use Rattle.plan_terms.specs.meaning.Plans as plan;
 
@@ -81,5 +81,7 @@ pub fn wakings()
     ensures always { wake_patterns no_values (plan.AlwaysPlan 0 0 0 9 no_q) ≡ Some (q_alone ∷ []) }
     ensures always_is_looked_at { wake_patterns no_values (plan.AlwaysPlan 0 0 0 9 (cause_p 1)) ≡ None }
     ensures guard { wake_patterns no_values (plan.AlwaysPlan 0 0 0 9 each_soon) ≡ Some (p_open ∷ []) }
+    ensures early { early_patterns no_values (plan.EventuallyPlan 0 0 3 9 (cause_p 1)) ≡ Some [] }
+    ensures early_side { early_patterns no_values (plan.UntilPlan 0 0 3 10 no_q (cause_p 2)) ≡ Some (q_alone ∷ []) }
     ensures next { wake_patterns no_values (plan.NextPlan 0 0 10 (cause_p 1)) ≡ None }
 {}

@@ -15,13 +15,15 @@ use Rattle.obligations.specs.machine.PresentStep.{IsNowOf}
 use Rattle.obligations.specs.machine.Progress.{BecomesOne}
 use Rattle.obligations.specs.machine.Successors.{ComesOf, ComesOfRoot}
 use Rattle.obligations.specs.meaning.Pending.{BegunByRoots}
+use Rattle.pending.specs.machine.Moments.{moment_of}
 use Rattle.pending.specs.machine.PendingEntries.{entries_from}
 
--- what becomes of an entry at a step: what is begun for it goes on from its place at one beginning
+-- what becomes of an entry at a step: what is begun for it goes on from its place at one beginning, and so does its
+-- instance where that stays and is filed anew
 pub record EntryBecomes (now : Now) (plans : List Plan) (inserted : Bool) (later : ℕ) (o : EntryOutcome Instance) :
     Type 0 where
   pub more : List Instance
-  pub begun : o.begun ≡ entries_from plans o.entry.place later 0 more
+  pub begun : o.begun ≡ entries_from plans now.time o.entry.place later 0 more
   pub after : (trace : List Step) → IsNowOf now trace
       → BecomesOne plans inserted o.entry.item trace (cond o.stays (o.entry.item ∷ []) [] ++ more)
   pub come : (j : Instance) → Contains (cond o.stays (o.entry.item ∷ []) [] ++ more) j
@@ -46,11 +48,11 @@ pub record CarriesPending (now : Now) (plans : List Plan) (inserted : Bool) (ste
   pub later : ℕ
   pub at : later ≡ 2 ^ 64 - 1 - steps
   pub first : List (Entry Instance)
-  pub awake : IsAllBut (IsAsleep now.events.now now.time) all first
+  pub awake : IsAllBut (IsAsleep now.events.now (moment_of inserted now.time)) all first
   pub begun_for : List (Entry Instance)
   pub walks : WalksEntries now plans inserted later all first left [] begun_for
   pub roots : List Instance
   pub by_roots : (trace : List Step) → IsNowOf now trace → BegunByRoots trace 0 plans roots
   pub asked : AllByRecursion (CanAskOf (guards_at now.tables.now) plans) roots
   pub come : (j : Instance) → Contains roots j → ComesOfRoot now plans j
-  pub grown : more ≡ begun_for ++ entries_from plans [] steps 0 roots
+  pub grown : more ≡ begun_for ++ entries_from plans now.time [] steps 0 roots

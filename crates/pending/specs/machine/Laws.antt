@@ -9,7 +9,7 @@ use Rattle.obligations.specs.declared.literals.Literal.{Literal}
 use Rattle.obligations.specs.machine.AskablePlans.{CanAskOf}
 use Rattle.obligations.specs.meaning.Obligations.{time_now}
 use Rattle.obligations.specs.meaning.Pending.{MissingOf, After, node_of}
-use Rattle.pending.specs.machine.InstancePatterns.{InstanceSleeps, IsWindowNotOver}
+use Rattle.pending.specs.machine.InstancePatterns.{InstanceIsEarly, InstanceSleeps, IsWindowNotOver}
 
 -- an instance that sleeps misses nothing, where it is not forced
 abbrev pub SleepersMissNothing : Type 0
@@ -22,4 +22,16 @@ abbrev pub SleepersStay : Type 0
 SleepersStay = (guards : List (Formula × List VarId)) (plans : List Plan) (trace : List Step) (i : Instance)
     → CanAskOf guards plans i → InstanceSleeps plans trace i
     → IsWindowNotOver (node_of plans i) i (time_now trace)
+    → (after : List Instance) → After plans trace i after → after ≡ i ∷ []
+
+-- one whose window has not begun misses nothing
+abbrev pub EarlyMissNothing : Type 0
+EarlyMissNothing = (guards : List (Formula × List VarId)) (plans : List Plan) (trace : List Step) (i : Instance)
+    → CanAskOf guards plans i → InstanceIsEarly plans trace i
+    → (literals : List Literal) → MissingOf plans trace i false literals → literals ≡ []
+
+-- and becomes itself
+abbrev pub EarlyStay : Type 0
+EarlyStay = (guards : List (Formula × List VarId)) (plans : List Plan) (trace : List Step) (i : Instance)
+    → CanAskOf guards plans i → InstanceIsEarly plans trace i
     → (after : List Instance) → After plans trace i after → after ≡ i ∷ []

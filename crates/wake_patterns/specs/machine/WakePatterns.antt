@@ -100,3 +100,11 @@ wake_patterns v (EventuallyPlan node place low high body) = met_by v body
 wake_patterns v (AlwaysPlan node place low high body) = missed_by v body
 wake_patterns v (UntilPlan node place low high left right) = patterns_of_both (met_by v right) (missed_by v left)
 wake_patterns v plan = None
+
+-- before the window of an operator on the future begins, a step without an event of these changes nothing of what it
+-- asks
+abbrev pub early_patterns : Valuation → Plan → Option (List Pattern)
+early_patterns v (EventuallyPlan node place low high body) = Some []
+early_patterns v (AlwaysPlan node place low high body) = Some []
+early_patterns v (UntilPlan node place low high left right) = missed_by v left
+early_patterns v plan = None

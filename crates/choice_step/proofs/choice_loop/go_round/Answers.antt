@@ -1,7 +1,8 @@
-use Rattle.choice_step.proofs.Vocabulary.{[], None, refl, sym, subst, map, append-nil, placed_guard, SleepsAt, AllButThose, shown, IfNone, IfSome, HaveSameEvents, guard_names, rule_found}
+use Rattle.choice_step.proofs.Vocabulary.{[], None, ◌≡◌, ◌∙◌, ap, moment_of, refl, sym, subst, map, append-nil, placed_guard, AllButThose, AllByRecursion, Contains, CoversMet, SleepsNow, listed_instances, trace_with_step, shown, IfNone, IfSome, HaveSameEvents, guard_names, rule_found}
 use Rattle.choice_step.proofs.Vocabulary.{situation_plans, SituationFinds, IsFoundInSituation, IsMetBefore, NoneIsWoken}
 use Rattle.std.specs.Prelude.{IsTrue}
-use Rattle.choice_step.proofs.RoundLemmas.{covers_sleep, rest_among}
+use Rattle.choice_step.proofs.FirstActionLemmas.{Met}
+use Rattle.choice_step.proofs.RoundLemmas.{covers_sleep, woken_among}
 use Rattle.choice_step.proofs.choice_loop.go_round.Goals as goal
 
 pub returns-in_default-clause-acts : goal.returns-in_default-clause-acts
@@ -15,16 +16,19 @@ pub look-requires : goal.look-requires
 look-requires c =
     let situation = c.args.situation.now in
     let plans = situation_plans situation in
-    let pending = situation.pending.now.instances in
-    let but =
-    subst (λ l. AllButThose (SleepsAt plans c.as_slice.result.now situation.time) pending (shown l)) (sym c.as_slice-waiting.ensures.value) (c.in_ok-woken.ensures plans c.requires.can.step.kept) in
-    let waiting = shown c.as_slice-waiting.result.now in
+    let kept = c.requires.can.step.kept in
+    let moment = moment_of situation.inserted situation.time in
+    let (awake, but, are) = c.in_ok-woken.ensures in
+    let waiting : shown c.as_slice-waiting.result.now ≡ listed_instances awake = ap shown c.as_slice-waiting.ensures.value ∙ are in
     record {
       can = c.requires.can;
-      among = rest_among (SleepsAt plans c.as_slice.result.now situation.time) pending waiting but pending (λ x there. there);
+      among = subst (AllByRecursion (Contains situation.pending.now.instances)) (sym waiting)
+          (woken_among plans situation.pending.now (SleepsNow c.as_slice.result.now moment) awake kept but);
       start = λ trace stands long later. (
-        covers_sleep c.pending_exists.ensures.missing c.sleepers_stay.ensures.misses_nothing (map placed_guard situation.past.now.guards) plans situation.inserted trace situation.time c.args.events
-            pending waiting c.requires.can.step.all.instances (subst (λ l. AllButThose (SleepsAt plans l situation.time) pending waiting) c.as_slice.ensures.events but),
+        subst (CoversMet (Met plans situation.inserted (trace_with_step trace situation.time c.args.events)) situation.pending.now.instances) (sym waiting)
+            (covers_sleep c.pending_exists.ensures.missing c.sleepers_stay.ensures.misses_nothing c.sleepers_stay.ensures.early_misses_nothing (map placed_guard situation.past.now.guards) plans
+            situation.inserted trace situation.time c.args.events situation.pending.now awake kept c.requires.can.step.all.instances
+            (subst (λ l. AllButThose (SleepsNow l moment) situation.pending.now.listed awake) c.as_slice.ensures.events but)),
         tt,
       );
     }
@@ -32,14 +36,14 @@ look-requires c =
 pub act_from-requires : goal.act_from-requires
 act_from-requires c =
     let situation = c.args.situation.now in
-    let plans = situation_plans situation in
-    let pending = situation.pending.now.instances in
-    let but =
-    subst (λ l. AllButThose (SleepsAt plans c.as_slice.result.now situation.time) pending (shown l)) (sym c.as_slice-waiting.ensures.value) (c.in_ok-woken.ensures plans c.requires.can.step.kept) in
+    let moment = moment_of situation.inserted situation.time in
+    let (awake, but, are) = c.in_ok-woken.ensures in
+    let waiting : shown c.as_slice-waiting.result.now ≡ listed_instances awake = ap shown c.as_slice-waiting.ensures.value ∙ are in
     let events = c.args.events in
     record {
       can = c.requires.can;
-      among = rest_among (SleepsAt plans c.as_slice.result.now situation.time) pending (shown c.as_slice-waiting.result.now) but pending (λ x there. there);
+      among = subst (AllByRecursion (Contains situation.pending.now.instances)) (sym waiting)
+          (woken_among (situation_plans situation) situation.pending.now (SleepsNow c.as_slice.result.now moment) awake c.requires.can.step.kept but);
       are = c.in_ok-found.ensures.are;
       hold = c.in_ok-found.ensures.hold;
       known = c.in_ok-found.ensures.known;

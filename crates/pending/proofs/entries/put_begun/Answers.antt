@@ -17,13 +17,13 @@ loop-instance-preserved c =
       loop.0 ∙ ap (λ l. yielded ++ l) c.in-Some.ensures.steps.0 ∙ sym (append_assoc yielded (x ∷ []) rest),
       omega (arith, count, length-append yielded (x ∷ [])),
       c.in_ok-push.ensures.items ∙ (λ i. into i ++ entry i ∷ [])
-          ∙ append_assoc c.args.into.now.items (entries_from plans place c.args.number 0 yielded) _
-          ∙ ap (λ l. c.args.into.now.items ++ l) (sym (entries_more plans place c.args.number 0 yielded x c.loop-instance.among (omega (arith, count)))),
+          ∙ append_assoc c.args.into.now.items (entries_from plans c.args.time place c.args.number 0 yielded) _
+          ∙ ap (λ l. c.args.into.now.items ++ l) (sym (entries_more plans c.args.time place c.args.number 0 yielded x c.loop-instance.among (omega (arith, count)))),
     )
 
 pub returns-then-is_empty : goal.returns-then-is_empty
 returns-then-is_empty c =
     let instances = c.args.instances in
     let none = eqb-true instances.len 0 (sym c.is_empty.ensures ∙ c.if-is_empty.true) in
-    sym (ap (λ l. c.args.into.now.items ++ l) (none_from (map plan_of c.args.plans.now) c.args.place.now c.args.number 0 instances.items (omega (arith, none, instances.ok.0)))
+    sym (ap (λ l. c.args.into.now.items ++ l) (none_from (map plan_of c.args.plans.now) c.args.time c.args.place.now c.args.number 0 instances.items (omega (arith, none, instances.ok.0)))
     ∙ append-nil c.args.into.now.items)

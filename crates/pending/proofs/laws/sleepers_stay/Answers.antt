@@ -1,4 +1,4 @@
-use Rattle.pending.proofs.WakePatternLemmas.{miss_nothing, stay}
+use Rattle.pending.proofs.WakePatternLemmas.{early_miss_nothing, early_stay, miss_nothing, stay}
 use Rattle.pending.proofs.laws.sleepers_stay.Goals as goal
 
 pub returns-clause-misses_nothing : goal.returns-clause-misses_nothing
@@ -6,3 +6,9 @@ returns-clause-misses_nothing c = miss_nothing
 
 pub returns-clause-stays : goal.returns-clause-stays
 returns-clause-stays c = stay
+
+pub returns-clause-early_misses_nothing : goal.returns-clause-early_misses_nothing
+returns-clause-early_misses_nothing c = early_miss_nothing
+
+pub returns-clause-early_stays : goal.returns-clause-early_stays
+returns-clause-early_stays c = early_stay

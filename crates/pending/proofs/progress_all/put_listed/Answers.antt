@@ -24,7 +24,7 @@ put_one-requires-clause-free c =
     let one = length-append c.pop.new.self.items (c.in-Some.instance ∷ []) in
     subst (λ (e : Entry Instance). IsFreePlace e.place before) (sym c.in_ok-entry.ensures)
     (subst (IsFreePlace (beginning_at 0 n ∷ [])) (sym are)
-    (free_below (map plan_of c.args.plans.now) n (length c.loop-instance.instances.items) put (omega (arith, len, held, items, one))))
+    (free_below (map plan_of c.args.plans.now) c.args.time n (length c.loop-instance.instances.items) put (omega (arith, len, held, items, one))))
 
 pub loop-instance-preserved : goal.loop-instance-preserved
 loop-instance-preserved c =
@@ -41,14 +41,14 @@ loop-instance-preserved c =
     let one_more = length-append rest (x ∷ []) in
     let among : c.len-among.result ≡ n = omega (arith, len, held) in
     let count : length c.loop-instance.instances.items ≡ suc n = omega (arith, items, one_more) in
-    let entry : c.in_ok-entry.entry ≡ entry_at plans (beginning_at 0 n ∷ []) x = c.in_ok-entry.ensures ∙ ap (λ m. entry_at plans (beginning_at 0 m ∷ []) x) among in
-    let one : HasOneMoreEntry (entry_at plans (beginning_at 0 n ∷ []) x) before after = subst (λ (e : Entry Instance). HasOneMoreEntry e before after) entry c.in_ok-put_one.ensures.puts in (
+    let entry : c.in_ok-entry.entry ≡ entry_at plans c.args.time (beginning_at 0 n ∷ []) x = c.in_ok-entry.ensures ∙ ap (λ m. entry_at plans c.args.time (beginning_at 0 m ∷ []) x) among in
+    let one : HasOneMoreEntry (entry_at plans c.args.time (beginning_at 0 n ∷ []) x) before after = subst (λ (e : Entry Instance). HasOneMoreEntry e before after) entry c.in_ok-put_one.ensures.puts in (
       (
         x ∷ put,
         all ∙ ap (λ l. l ++ put) c.in-Some.ensures.items ∙ append_assoc rest (x ∷ []) put,
-        put_first plans n x put before after (are ∙ ap (λ m. entries_from plans [] 0 m put) count) one,
+        put_first plans c.args.time n x put before after (are ∙ ap (λ m. entries_from plans c.args.time [] 0 m put) count) one,
       ),
-      more_kept 1 (entry_at plans (beginning_at 0 n ∷ []) x) before after one c.loop-instance.invariant.1 (record { made = (omega arith, tt); ends = refl }),
+      more_kept 1 (entry_at plans c.args.time (beginning_at 0 n ∷ []) x) before after one c.loop-instance.invariant.1 (record { made = (omega arith, tt) }),
       c.in_ok-put_one.ensures.held,
       c.put_one.ensures.queue,
     )

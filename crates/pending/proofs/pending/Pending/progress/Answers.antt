@@ -1,4 +1,5 @@
 use Rattle.pending.proofs.Vocabulary.{◌+◌, ◌∙◌, map, subst, sym, on_ok_weaker, AllByRecursion, on_ok_both, count_entries, plan_of, guards_at, CanAskOf, ArePendingEntries, IsPendingListOf}
+use Rattle.pending.proofs.EntryLemmas.{listed_items}
 use Rattle.pending.proofs.ProgressLemmas.{asked_behind, can_put, fit_next, goes, kept_later, leads, waits_behind}
 use Rattle.pending.proofs.pending.Pending.progress.Goals as goal
 
@@ -36,7 +37,7 @@ pub returns-clause-goes : goal.returns-clause-goes
 returns-clause-goes c = on_ok_weaker c.put_each.result
     (λ puts. goes c.args.now.now (map plan_of c.args.plans.now) c.args.inserted c.self.inside.steps c.self.inside.sleepers.entries c.carry.new.sleepers.entries c.in_ok-more.more.items
     c.in_ok-next.ensures.1 c.self.invariant.1 c.args.self.now _ c.self.view_is c.requires.keeps c.requires.instances c.in_ok-more.ensures.carries
-    c.put_each.new.sleepers.entries c.steps_go_in_order.ensures.in_order puts c.pending_exists.ensures.after c.sleepers_stay.ensures.stays) c.put_each.ensures.puts
+    c.put_each.new.sleepers.entries c.steps_go_in_order.ensures.in_order puts c.pending_exists.ensures.after c.sleepers_stay.ensures.stays c.sleepers_stay.ensures.early_stays) c.put_each.ensures.puts
 
 pub returns-clause-leads : goal.returns-clause-leads
 returns-clause-leads c = on_ok_weaker c.put_each.result
@@ -48,7 +49,8 @@ pub returns-clause-keeps : goal.returns-clause-keeps
 returns-clause-keeps c = on_ok_both c.put_each.result _ _ _
     (λ puts held. record {
       due = λ d. count_entries c.put_each.new.deadlines d c.put_each.ensures.queue ∙ held d;
-      wait = waits_behind c.args.now.now (map plan_of c.args.plans.now) c.args.inserted c.self.inside.steps c.self.inside.sleepers.entries c.carry.new.sleepers.entries c.in_ok-more.more.items
+      instances = listed_items c.put_each.new.sleepers.entries;
+      waits = waits_behind c.args.now.now (map plan_of c.args.plans.now) c.args.inserted c.self.inside.steps c.self.inside.sleepers.entries c.carry.new.sleepers.entries c.in_ok-more.more.items
           c.in_ok-next.ensures.1 c.self.invariant.1 c.args.self.now _ c.self.view_is c.requires.keeps c.requires.instances c.in_ok-more.ensures.carries
           c.put_each.new.sleepers.entries c.steps_go_in_order.ensures.in_order puts;
     }) c.put_each.ensures.puts c.put_each.ensures.held
