@@ -1,5 +1,5 @@
 -- A round begins with the instances that wait: all others sleep, and miss nothing.
-use Rattle.choice_step.proofs.Vocabulary.{◌≡◌, ℕ, Bool, false, List, [], ◌∷◌, Contains, ⊎_elim, inl, inr, sym, ap, subst, arith, ◌<◌, ◌∙◌, moment_of, AllByRecursion, here, later, Event, Step}
+use Rattle.choice_step.proofs.Vocabulary.{◌≡◌, ℕ, Bool, false, List, [], ◌∷◌, Contains, ⊎_elim, inl, inr, sym, ap, subst, arith, ◌<◌, ◌∙◌, step_moment, AllByRecursion, here, later, Event, Step}
 use Rattle.choice_step.proofs.Vocabulary.{VarId, Formula, Plan, time_now, MissingOfExists, MissingOf, CanAskOf, Instance, AllButThose, HasNone, SleepsNow, SleepersMissNothing, EarlyMissNothing, Listed, Wait, IsWaitOf, IsPendingListOf, PendingList, listed_instances, is_forced}
 use Rattle.choice_step.proofs.Vocabulary.{trace_with_step, CoversMet}
 use Rattle.pending.proofs.MomentLemmas.{before_last, not_begun, not_forced}
@@ -11,7 +11,7 @@ module _ (exists : MissingOfExists) (sleep : SleepersMissNothing) (early : Early
   abbrev now : List Step
   now = trace_with_step trace time events
 
-  sleeper_met : (x : Listed) → CanAskOf guards plans x.instance → IsWaitOf plans x.wait x.instance → SleepsNow events (moment_of inserted time) x
+  sleeper_met : (x : Listed) → CanAskOf guards plans x.instance → IsWaitOf plans x.wait x.instance → SleepsNow events (step_moment inserted time) x
       → Met plans inserted now x.instance
   sleeper_met x can is sleeps =
       let i = x.instance in
@@ -19,13 +19,13 @@ module _ (exists : MissingOfExists) (sleep : SleepersMissNothing) (early : Early
       let last = last_step trace step in
       let at : time_now now ≡ time = ap (λ (s : Step). s.time) last in
       let none = subst (HasNone sleeps.patterns) (sym (ap (λ (s : Step). s.events) last)) sleeps.none in
-      let before = before_last plans x.wait i (moment_of inserted time) is sleeps.in_time in
+      let before = before_last plans x.wait i (step_moment inserted time) is sleeps.in_time in
       let waits : is_forced inserted (time_now now) i ≡ false = subst (λ t. is_forced inserted t i ≡ false) (sym at) (not_forced inserted time i.high before) in
       let found = exists guards plans now i false can in
       let nothing = ⊎_elim
       (λ open_is. sleep guards plans now i can (record { patterns = sleeps.patterns; wakes = sym (ap (λ (w : Wait). w.patterns) open_is) ∙ sleeps.waits; none = none }) found.0 found.1)
       (λ early_is.
-      let first = not_begun inserted time i (subst (λ (w : Wait). moment_of inserted time < w.until) early_is sleeps.in_time) in
+      let first = not_begun inserted time i (subst (λ (w : Wait). step_moment inserted time < w.until) early_is sleeps.in_time) in
       early guards plans now i can (record {
         patterns = sleeps.patterns;
         wakes = sym (ap (λ (w : Wait). w.patterns) early_is) ∙ sleeps.waits;
@@ -35,14 +35,14 @@ module _ (exists : MissingOfExists) (sleep : SleepersMissNothing) (early : Early
       subst (λ b. MissingOf plans now i b []) (sym waits) (subst (MissingOf plans now i false) nothing found.1)
 
   covers_listed : (all rest : List Listed) → AllByRecursion (CanAskOf guards plans) (listed_instances all) → AllByRecursion (λ x. IsWaitOf plans x.wait x.instance) all
-      → AllButThose (SleepsNow events (moment_of inserted time)) all rest → CoversMet (Met plans inserted now) (listed_instances all) (listed_instances rest)
+      → AllButThose (SleepsNow events (step_moment inserted time)) all rest → CoversMet (Met plans inserted now) (listed_instances all) (listed_instances rest)
   covers_listed [] rest can waits but = ap listed_instances but
   covers_listed (x ∷ all) rest can waits but = ⊎_elim
       (λ c. inl (listed_instances c.0, ap listed_instances c.3, covers_listed all c.0 can.1 waits.1 c.2))
       (λ c. inr (sleeper_met x can.0 waits.0 c.0, covers_listed all rest can.1 waits.1 c.1)) but
 
   pub covers_sleep : (pending : PendingList) (rest : List Listed) → IsPendingListOf plans pending → AllByRecursion (CanAskOf guards plans) pending.instances
-      → AllButThose (SleepsNow events (moment_of inserted time)) pending.listed rest → CoversMet (Met plans inserted now) pending.instances (listed_instances rest)
+      → AllButThose (SleepsNow events (step_moment inserted time)) pending.listed rest → CoversMet (Met plans inserted now) pending.instances (listed_instances rest)
   covers_sleep pending rest kept can but =
       subst (λ l. CoversMet (Met plans inserted now) l (listed_instances rest)) kept.instances
       (covers_listed pending.listed rest (subst (AllByRecursion (CanAskOf guards plans)) (sym kept.instances) can) kept.waits but)

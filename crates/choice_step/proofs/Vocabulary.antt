@@ -112,7 +112,7 @@ pub use Rattle.past_state.specs.machine.StoredRows.{StoresFor}
 pub use Rattle.past_state.specs.machine.ValueSources.{AreKnown, IsConstantOf, IsKeptValue}
 pub use Rattle.past_state.specs.meaning.KeptRows.{pair_of}
 pub use Rattle.pending.specs.machine.Laws.{EarlyMissNothing, SleepersMissNothing}
-pub use Rattle.pending.specs.machine.Moments.{moment_of}
+pub use Rattle.pending.specs.machine.Moments.{step_moment}
 pub use Rattle.pending.specs.machine.PendingLists.{IsPendingListOf, PendingList, listed_instances}
 pub use Rattle.pending.specs.machine.Waits.{IsWaitOf, Listed, SleepsNow, Wait}
 pub use Rattle.plan_terms.proofs.NodeLemmas.{first_node, plan_at}

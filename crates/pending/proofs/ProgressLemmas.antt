@@ -5,7 +5,7 @@ use Rattle.pending.proofs.Vocabulary.{Contains-append, first_or_later, here, lat
 use Rattle.pending.proofs.Vocabulary.{HasNone, CanPutIn, OutcomeGoesOn, IsInOrder, IsOneOr, IsStep, EntryOutcome, PutsInEntries, begun_entries, entries_behind, StepsCanPutIn, StepsGoInOrder, Entry}
 use Rattle.pending.proofs.Vocabulary.{Beginning, IsNowOf, guards_at, time_now, Gathers, AreServed, is_forced_at, ComesOf, NowLeads, AfterExists, After, AtNode, PendingAfter, node_of, IsBegunUnder}
 use Rattle.pending.proofs.Vocabulary.{CanAskOf, HasPart, Instance, Now, EntryBecomes, CarriesPending, WalksEntries, ArePendingEntries, FitsStep, entries_from, items_of, IsPendingListOf}
-use Rattle.pending.proofs.Vocabulary.{EarlyStay, IsWaitOf, Listed, PendingList, SleepersStay, Wait, all_listed, listed_of, moment_of}
+use Rattle.pending.proofs.Vocabulary.{EarlyStay, IsWaitOf, Listed, PendingList, SleepersStay, Wait, all_listed, listed_of, step_moment}
 use Rattle.pending.proofs.EntryLemmas.{entries_items, entries_places, filed_waits, items_append}
 use Rattle.pending.proofs.MomentLemmas.{before_last, not_begun, not_forced, not_later}
 use Rattle.pending.proofs.WakePatternLemmas.{not_over}
@@ -81,7 +81,7 @@ module _ (now : Now) (plans : List Plan) (inserted : Bool) (n : ℕ) (all left m
     (view : record { instances = items_of all; deadlines = deadlines; listed = all_listed all } ≡ seen) (keeps : IsPendingListOf plans seen)
     (can : AllByRecursion (CanAskOf (guards_at now.tables.now) plans) seen.instances) (carried : CarriesPending now plans inserted n all left more) where
   abbrev Q : Entry Instance → Type 0
-  Q = IsAsleep now.events.now (moment_of inserted now.time)
+  Q = IsAsleep now.events.now (step_moment inserted now.time)
 
   abbrev m : ℕ
   m = carried.later
@@ -126,11 +126,11 @@ module _ (now : Now) (plans : List Plan) (inserted : Bool) (n : ℕ) (all left m
   pub can_put : StepsCanPutIn Instance → CanPutIn more left
   can_put law =
       subst (λ (l : List (Entry Instance)). CanPutIn l left) (sym carried.grown)
-      (subst (λ (l : List (Entry Instance)). CanPutIn (l ++ anew) left) (sym walks.begun_are) (law now.events.now (moment_of inserted now.time) n m all walks.outcomes left anew step))
+      (subst (λ (l : List (Entry Instance)). CanPutIn (l ++ anew) left) (sym walks.begun_are) (law now.events.now (step_moment inserted now.time) n m all walks.outcomes left anew step))
 
   order_of : StepsGoInOrder Instance → (grown : List (Entry Instance)) → PutsInEntries more left grown → IsInOrder Q all walks.outcomes anew grown
   order_of law grown puts =
-      law now.events.now (moment_of inserted now.time) n m all walks.outcomes left anew grown step
+      law now.events.now (step_moment inserted now.time) n m all walks.outcomes left anew grown step
       (subst (λ (l : List (Entry Instance)). PutsInEntries (l ++ anew) left grown) walks.begun_are (subst (λ (l : List (Entry Instance)). PutsInEntries l left grown) carried.grown puts))
 
   in_all : (o : EntryOutcome Instance) → Contains walks.outcomes o → Contains all o.entry
@@ -206,7 +206,7 @@ module _ (now : Now) (plans : List Plan) (inserted : Bool) (n : ℕ) (all left m
     waits_on : (e : Entry Instance) → Good now plans e → Q e → ComesOf now plans inserted e.item e.item
     waits_on e good asleep =
         let can = good.1 in
-        let before = before_last plans (listed_of e).wait e.item (moment_of inserted now.time) good.0 asleep.in_time in
+        let before = before_last plans (listed_of e).wait e.item (step_moment inserted now.time) good.0 asleep.in_time in
         subst (λ (o : Option Plan). AtNode o (λ node. ((e.item ≡ e.item) × (has_deadline node ≡ true → is_forced_at inserted now.time e.item ≡ false))
         ⊎ ((part : Plan) × HasPart node part × IsBegunUnder now.ordered.now now.time now.position e.item.rule part e.item))) (sym can.found)
         (inl (refl, λ due. not_forced inserted now.time e.item.high before))
@@ -254,13 +254,13 @@ module _ (now : Now) (plans : List Plan) (inserted : Bool) (n : ℕ) (all left m
           let found = exists (guards_at now.tables.now) plans trace e.item good.1 in
           let now_is = is.time in
           let none = subst (HasNone asleep.patterns) (sym is.events) asleep.none in
-          let within = not_later inserted now.time e.item.high (before_last plans (listed_of e).wait e.item (moment_of inserted now.time) good.0 asleep.in_time) in
+          let within = not_later inserted now.time e.item.high (before_last plans (listed_of e).wait e.item (step_moment inserted now.time) good.0 asleep.in_time) in
           subst (After plans trace e.item) (⊎_elim
           (λ open_is. stay (guards_at now.tables.now) plans trace e.item good.1
           (record { patterns = asleep.patterns; wakes = sym (ap (λ (w : Wait). w.patterns) open_is) ∙ asleep.waits; none = none })
           (not_over (node_of plans e.item) e.item (time_now trace) (omega (arith, within, now_is))) found.0 found.1)
           (λ early_is.
-          let before = not_begun inserted now.time e.item (subst (λ (w : Wait). moment_of inserted now.time < w.until) early_is asleep.in_time) in
+          let before = not_begun inserted now.time e.item (subst (λ (w : Wait). step_moment inserted now.time < w.until) early_is asleep.in_time) in
           early_stay (guards_at now.tables.now) plans trace e.item good.1 (record {
             patterns = asleep.patterns;
             wakes = sym (ap (λ (w : Wait). w.patterns) early_is) ∙ asleep.waits;

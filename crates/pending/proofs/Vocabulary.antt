@@ -38,7 +38,7 @@ pub use Rattle.pending.specs.machine.EntrySteps.{CarriesPending, EntryBecomes, W
 pub use Rattle.pending.specs.machine.InstancePatterns.{InstanceIsEarly, InstanceSleeps, IsWindowNotOver, early_patterns_at, early_patterns_of, wake_patterns_at, wake_patterns_of}
 pub use Rattle.pending.specs.machine.Laws.{EarlyStay, SleepersStay}
 pub use Rattle.pending.specs.machine.PendingEntries.{ArePendingEntries, FitsStep, all_listed, entries_from, entry_at, items_of, listed_of}
-pub use Rattle.pending.specs.machine.Moments.{moment_of}
+pub use Rattle.pending.specs.machine.Moments.{step_moment}
 pub use Rattle.pending.specs.machine.PendingLists.{IsPendingListOf, PendingList, listed_instances}
 pub use Rattle.pending.specs.machine.Waits.{IsWaitOf, Listed, SleepsNow, Wait, early_until, open_until, patterns_at, until_at}
 pub use Rattle.plan_terms.proofs.ScopeLaws.{AtEach-weaker}

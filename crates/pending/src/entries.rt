@@ -8,7 +8,7 @@ ghost use Rattle.pending.specs.machine.InstancePatterns as waiting;
 ghost use Rattle.pending.specs.machine.Waits.{patterns_at};
 ghost use Rattle.pending.specs.machine.Waits as waits;
 
-use crate::moments::moment_of;
+use crate::moments::step_moment;
 use enf_data::memory::NoMemory;
 use obligations::Instance;
 use obligations::pending_parts::node_in;
@@ -63,9 +63,9 @@ fn early_patterns_in(
 pub fn until_at(time: u64, instance: &Instance) -> u64
     ensures { result ≡ waits.until_at time instance.now }
 {
-    let last = moment_of(true, instance.high);
+    let last = step_moment(true, instance.high);
     if time < instance.low {
-        return moment_of(false, instance.low).min(last);
+        return step_moment(false, instance.low).min(last);
     }
     last
 }

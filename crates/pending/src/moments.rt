@@ -3,8 +3,8 @@ ghost use Rattle.std.specs.Prelude.{◌≡◌};
 ghost use Rattle.pending.specs.machine.Moments as moments;
 
 /// The number of a moment, as far as numbers go.
-pub fn moment_of(inserted: bool, time: u64) -> u64
-    ensures { result ≡ moments.moment_of inserted time }
+pub fn step_moment(inserted: bool, time: u64) -> u64
+    ensures { result ≡ moments.step_moment inserted time }
 {
     time.saturating_mul(2).saturating_add(u64::from(inserted))
 }

@@ -21,7 +21,7 @@ ghost use Rattle.pending.specs.machine.Waits.{Listed, SleepsNow};
 
 use crate::entries::items_in;
 use crate::laws::sleepers_stay;
-use crate::moments::moment_of;
+use crate::moments::step_moment;
 use crate::progress_all::{carry, put_each, put_listed};
 use deadline_queue::DeadlineQueue;
 use enf_data::Event;
@@ -126,12 +126,12 @@ impl Pending {
         inserted: bool,
     ) -> Result<Vec<&Instance>, NoMemory>
         ensures { IfOk result (λ woken. (awake : List Listed)
-            × AllButThose (SleepsNow events.now (moments.moment_of inserted time)) self.now.listed awake
+            × AllButThose (SleepsNow events.now (moments.step_moment inserted time)) self.now.listed awake
             × (shown woken.items ≡ listed_instances awake)) }
     {
         let entries = self
             .sleepers
-            .woken(alloc, events, moment_of(inserted, time))?;
+            .woken(alloc, events, step_moment(inserted, time))?;
         items_in(alloc, entries.as_slice())
     }
 

@@ -23,7 +23,7 @@ ghost use Rattle.obligations.specs.declared.instances.Instance.{Instance as AnyI
 
 use crate::deadlines::{hold, let_go};
 use crate::entries::{entry_behind, put_begun, until_at};
-use crate::moments::moment_of;
+use crate::moments::step_moment;
 use deadline_queue::DeadlineQueue;
 use enf_data::items::Duplicate;
 use enf_data::memory::NoMemory;
@@ -95,7 +95,7 @@ fn carry_awake(
     requires held { (deadline : ℕ) → held_count deadlines.old deadline
         ≡ count_due (map plan_of plans.now) (items_of sleepers.old.entries) deadline }
     ensures walks { IfOk result (λ more. (first : List (AnyEntry AnyInstance))
-        × IsAllBut (IsAsleep now.now.events.now (moments.moment_of inserted now.now.time)) sleepers.old.entries first
+        × IsAllBut (IsAsleep now.now.events.now (moments.step_moment inserted now.now.time)) sleepers.old.entries first
         × WalksEntries now.now (map plan_of plans.now) inserted later sleepers.old.entries first
         sleepers.new.entries [] more.items) }
     ensures kept { (steps : ℕ) → ArePendingEntries steps sleepers.old.entries
@@ -104,7 +104,11 @@ fn carry_awake(
         ≡ count_due (map plan_of plans.now) (items_of sleepers.new.entries) deadline) }
     ensures queue { IsDeadlineQueue deadlines.new }
 {
-    sleepers.wake(alloc, now.events.as_slice(), moment_of(inserted, now.time))?;
+    sleepers.wake(
+        alloc,
+        now.events.as_slice(),
+        step_moment(inserted, now.time),
+    )?;
     let mut more = Vec::new(alloc);
     while let Some(entry) = sleepers.peek() {
         let stays = carry_entry(alloc, plans, entry, now, inserted, later, &mut more)?;

@@ -15,7 +15,7 @@ use Rattle.obligations.specs.machine.PresentStep.{IsNowOf}
 use Rattle.obligations.specs.machine.Progress.{BecomesOne}
 use Rattle.obligations.specs.machine.Successors.{ComesOf, ComesOfRoot}
 use Rattle.obligations.specs.meaning.Pending.{BegunByRoots}
-use Rattle.pending.specs.machine.Moments.{moment_of}
+use Rattle.pending.specs.machine.Moments.{step_moment}
 use Rattle.pending.specs.machine.PendingEntries.{entries_from}
 
 -- what becomes of an entry at a step: what is begun for it goes on from its place at one beginning, and so does its
@@ -48,7 +48,7 @@ pub record CarriesPending (now : Now) (plans : List Plan) (inserted : Bool) (ste
   pub later : ℕ
   pub at : later ≡ 2 ^ 64 - 1 - steps
   pub first : List (Entry Instance)
-  pub awake : IsAllBut (IsAsleep now.events.now (moment_of inserted now.time)) all first
+  pub awake : IsAllBut (IsAsleep now.events.now (step_moment inserted now.time)) all first
   pub begun_for : List (Entry Instance)
   pub walks : WalksEntries now plans inserted later all first left [] begun_for
   pub roots : List Instance

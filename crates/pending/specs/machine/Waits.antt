@@ -6,7 +6,7 @@ use Rattle.sleepers.specs.declared.patterns.Pattern.{Pattern}
 use Rattle.sleepers.specs.machine.Patterns.{HasNone}
 use Rattle.obligations.specs.declared.instances.Instance.{Instance}
 use Rattle.pending.specs.machine.InstancePatterns.{early_patterns_of, wake_patterns_of}
-use Rattle.pending.specs.machine.Moments.{moment_of}
+use Rattle.pending.specs.machine.Moments.{step_moment}
 
 -- events of some patterns, where these are known, up to a moment
 pub record Wait : Type 0 where
@@ -15,10 +15,10 @@ pub record Wait : Type 0 where
 
 -- the last moment of a window, and the first one, where that is not behind the last
 abbrev pub open_until : Instance → ℕ
-open_until i = moment_of true i.high
+open_until i = step_moment true i.high
 
 abbrev pub early_until : Instance → ℕ
-early_until i = min (moment_of false i.low) (moment_of true i.high)
+early_until i = min (step_moment false i.low) (step_moment true i.high)
 
 -- what can change an instance, up to the last moment of its window, and up to the first
 abbrev pub open_wait : List Plan → Instance → Wait

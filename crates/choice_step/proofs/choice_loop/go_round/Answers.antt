@@ -1,4 +1,4 @@
-use Rattle.choice_step.proofs.Vocabulary.{[], None, ◌≡◌, ◌∙◌, ap, moment_of, refl, sym, subst, map, append-nil, placed_guard, AllButThose, AllByRecursion, Contains, CoversMet, SleepsNow, listed_instances, trace_with_step, shown, IfNone, IfSome, HaveSameEvents, guard_names, rule_found}
+use Rattle.choice_step.proofs.Vocabulary.{[], None, ◌≡◌, ◌∙◌, ap, step_moment, refl, sym, subst, map, append-nil, placed_guard, AllButThose, AllByRecursion, Contains, CoversMet, SleepsNow, listed_instances, trace_with_step, shown, IfNone, IfSome, HaveSameEvents, guard_names, rule_found}
 use Rattle.choice_step.proofs.Vocabulary.{situation_plans, SituationFinds, IsFoundInSituation, IsMetBefore, NoneIsWoken}
 use Rattle.std.specs.Prelude.{IsTrue}
 use Rattle.choice_step.proofs.FirstActionLemmas.{Met}
@@ -17,7 +17,7 @@ look-requires c =
     let situation = c.args.situation.now in
     let plans = situation_plans situation in
     let kept = c.requires.can.step.kept in
-    let moment = moment_of situation.inserted situation.time in
+    let moment = step_moment situation.inserted situation.time in
     let (awake, but, are) = c.in_ok-woken.ensures in
     let waiting : shown c.as_slice-waiting.result.now ≡ listed_instances awake = ap shown c.as_slice-waiting.ensures.value ∙ are in
     record {
@@ -36,7 +36,7 @@ look-requires c =
 pub act_from-requires : goal.act_from-requires
 act_from-requires c =
     let situation = c.args.situation.now in
-    let moment = moment_of situation.inserted situation.time in
+    let moment = step_moment situation.inserted situation.time in
     let (awake, but, are) = c.in_ok-woken.ensures in
     let waiting : shown c.as_slice-waiting.result.now ≡ listed_instances awake = ap shown c.as_slice-waiting.ensures.value ∙ are in
     let events = c.args.events in
