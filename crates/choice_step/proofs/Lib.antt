@@ -2,6 +2,7 @@ pub mod Vocabulary
 pub mod ActedEventLaws
 pub mod ActionChainLemmas
 pub mod AskedLeafLemmas
+pub mod BatchLemmas
 pub mod CaseLemmas
 pub mod ExistenceLemmas
 pub mod FiniteListLemmas

@@ -8,7 +8,8 @@ use Rattle.choice_step.proofs.Vocabulary.{Plan, CausePlan, SuppressPlan, Both, E
 use Rattle.choice_step.proofs.Vocabulary.{Missing, last_position, MissingOf, AreThoseWith, DiffersIn, HaveMore, IsStillWanted, IsUnread, IsUnreadIn, IsPlain, UnreadInstanceStaysMet, UnreadLeavesRest}
 use Rattle.choice_step.proofs.Vocabulary.{UnreadStaysMet, CanAskOf, CanAskRoots, Action, Instance, Literal, LiteralKind, AllCanBeAsked, GoesFrom, IsFoundFrom, ActsInTurn, AreSpared, AreSparedBehind}
 use Rattle.choice_step.proofs.Vocabulary.{HasNoChoices, Applies, MissesNothing, Root, Waiting, action_at, action_at_root, all_asked, is_forced, roots_from, trace_with_step, AreLiteralsBehind}
-use Rattle.choice_step.proofs.Vocabulary.{IsLiteralBehind, IsWantedFrom, IsActionFor, WillFind, IsLeftAt, WillBeLeft, WillBeMetBefore, Place, HasActionRole, IsCaused, GainsNoSuppressed}
+use Rattle.choice_step.proofs.Vocabulary.{IsLiteralBehind, IsWantedFrom, IsActionFor, WillFind, IsLeftAt, WillBeLeft, WillBeMetBefore, Place, HasActionRole, IsCaused, GainsNoSuppressed, Valuation}
+use Rattle.choice_step.proofs.Vocabulary.{CanAskPlan, TakesOut, FallingInstanceStaysMet, FallingStaysMet, OwnLeavesRest, IsFallingIn, KeepsRest, AllByRecursion-weaker}
 use Rattle.choice_step.proofs.ActionChainLemmas.{not_behind}
 use Rattle.choice_step.proofs.UniquenessLemmas.{last_step}
 use Rattle.choice_step.proofs.FirstActionLemmas.{Met, covers_again, waiting_met, found_behind, one_more_root, root_first}
@@ -174,28 +175,37 @@ in_drop (y ∷ xs) (suc k) x there = later x y xs (in_drop xs k x there)
 
 -- ---- what missed nothing
 
-module _ (met : UnreadStaysMet) (instances_met : UnreadInstanceStaysMet) (rest : UnreadLeavesRest) (plans : List Plan)
-    (inserted : Bool) (guards : List (Formula × List VarId)) (k : LiteralKind) (event : Event) (events after : List Event)
-    (trace : List Step) (time : ℕ) (applies : Applies k event events after)
-    (unread : AllByRecursion (IsUnreadIn k event.name) plans) where
+-- what missed nothing of a plan at a step misses nothing at another
+abbrev StaysMetAt : List (Formula × List VarId) → List Step → List Step → Plan → Type 0
+StaysMetAt guards before after plan = (v : Valuation) → CanAskPlan guards plan v → Missing before plan v [] → Missing after plan v []
+
+-- what missed nothing misses nothing after an action, and the root of a rule the rest of what it missed
+pub record StaysAfter (plans : List Plan) (guards : List (Formula × List VarId)) (before after : List Step) (rule : ℕ) : Type 0 where
+  pub plans_met : AllByRecursion (StaysMetAt guards before after) plans
+  pub instances_met : (i : Instance) (forced : Bool) → CanAskOf guards plans i → MissingOf plans before i forced [] → MissingOf plans after i forced []
+  pub rest : (plan : Plan) (missed : List Literal) → slice_get plans rule ≡ Some plan → AllByRecursion IsPlain (nodes plan)
+      → Missing before plan no_values missed
+      → (left : List Literal) × AreThoseWith (IsStillWanted after) missed left × Missing after plan no_values left
+
+module _ (plans : List Plan) (inserted : Bool) (guards : List (Formula × List VarId)) (events after : List Event) (trace : List Step)
+    (time rule : ℕ) (stays : StaysAfter plans guards (trace_with_step trace time events) (trace_with_step trace time after) rule) where
   abbrev S : List Step
   S = trace_with_step trace time events
 
   abbrev S' : List Step
   S' = trace_with_step trace time after
 
-  differ : DiffersIn k event.name S S'
-  differ = differs k event events after trace time applies
+  stay_some : (so_many number : ℕ) (ps : List Plan) → CanAskRoots guards ps → AllByRecursion (StaysMetAt guards S S') ps
+      → AllByRecursion (MissesNothing plans inserted S) (roots_from number (take so_many ps))
+      → AllByRecursion (MissesNothing plans inserted S') (roots_from number (take so_many ps))
+  stay_some zero number ps can are none = tt
+  stay_some (suc so_many) number [] can are none = tt
+  stay_some (suc so_many) number (plan ∷ ps) can are none =
+      (are.0 no_values can.0.0 none.0, stay_some so_many (suc number) ps can.1 are.1 none.1)
 
-  pub roots_stay : (rule number : ℕ) (ps : List Plan) → CanAskRoots guards ps → AllByRecursion (IsUnreadIn k event.name) ps
-      → AllByRecursion (MissesNothing plans inserted S) (roots_from number (take rule ps))
-      → AllByRecursion (MissesNothing plans inserted S') (roots_from number (take rule ps))
-  roots_stay zero number ps can are none = tt
-  roots_stay (suc rule) number [] can are none = tt
-  roots_stay (suc rule) number (plan ∷ ps) can are none = (
-    met guards k event.name S S' plan no_values differ are.0 can.0.0 none.0,
-    roots_stay rule (suc number) ps can.1 are.1 none.1,
-  )
+  pub roots_stay : (so_many : ℕ) → CanAskRoots guards plans → AllByRecursion (MissesNothing plans inserted S) (roots_from 0 (take so_many plans))
+      → AllByRecursion (MissesNothing plans inserted S') (roots_from 0 (take so_many plans))
+  roots_stay so_many can none = stay_some so_many 0 plans can stays.plans_met none
 
   same_time : time_now S ≡ time_now S'
   same_time =
@@ -207,37 +217,73 @@ module _ (met : UnreadStaysMet) (instances_met : UnreadInstanceStaysMet) (rest :
       → AllByRecursion (MissesNothing plans inserted S') (map Waiting is)
   instances_stay [] can none = tt
   instances_stay (i ∷ is) can none = (
-    subst (λ t. MissingOf plans S' i (is_forced inserted t i) []) same_time
-        (instances_met guards k event.name S S' plans i (is_forced inserted (time_now S) i) differ unread can.0 none.0),
+    subst (λ t. MissingOf plans S' i (is_forced inserted t i) []) same_time (stays.instances_met i (is_forced inserted (time_now S) i) can.0 none.0),
     instances_stay is can.1 none.1,
   )
 
-  unread_at : (rule : ℕ) (ps : List Plan) (plan : Plan) → AllByRecursion (IsUnreadIn k event.name) ps
-      → slice_get ps rule ≡ Some plan → IsUnreadIn k event.name plan
-  unread_at rule [] plan all e = absurd (none-some plan e)
-  unread_at zero (first ∷ ps) plan all e = subst (IsUnreadIn k event.name) (same_Some first plan e) all.0
-  unread_at (suc rule) (first ∷ ps) plan all e = unread_at rule ps plan all.1 e
-
   -- what is left after the action of what was missed before it
-  pub left_after : (pending : List Instance) (rule : ℕ) (plan : Plan) (literals missed : List Literal)
+  pub left_after : (pending : List Instance) (plan : Plan) (literals missed : List Literal)
       → CanAskRoots guards plans → AllByRecursion (CanAskOf guards plans) pending → slice_get plans rule ≡ Some plan
       → AllByRecursion IsPlain (nodes plan)
       → AllByRecursion (MissesNothing plans inserted S) (map Waiting pending)
       → AllByRecursion (MissesNothing plans inserted S) (roots_from 0 (take rule plans)) → Missing S plan no_values missed
       → ((left : List Literal) → AreThoseWith (IsStillWanted S') missed left → AreThoseWith (IsStillWanted S') literals left)
       → IsLeftAt plans pending inserted S' rule literals
-  left_after pending rule plan literals missed roots instances there plain before_instances before_roots missing those =
-      let more = rest k event.name S S' plan no_values missed differ (unread_at rule plans plan unread there) plain missing in
+  left_after pending plan literals missed roots instances there plain before_instances before_roots missing those =
+      let more = stays.rest plan missed there plain missing in
       record {
         plan = plan;
         there = there;
         plain = plain;
         instances = instances_stay pending instances before_instances;
-        roots = roots_stay rule 0 plans roots unread before_roots;
+        roots = roots_stay rule roots before_roots;
         left = more.0;
         those = those more.0 more.1;
         missing = more.2;
       }
+
+-- ---- what stays so after an action on a name that nothing reads
+
+at_rule : (P : Plan → Type 0) (rule : ℕ) (ps : List Plan) (plan : Plan) → AllByRecursion P ps → slice_get ps rule ≡ Some plan → P plan
+at_rule P rule [] plan all e = absurd (none-some plan e)
+at_rule P zero (first ∷ ps) plan all e = subst P (same_Some first plan e) all.0
+at_rule P (suc rule) (first ∷ ps) plan all e = at_rule P rule ps plan all.1 e
+
+unread_stays : UnreadStaysMet → UnreadInstanceStaysMet → UnreadLeavesRest → (plans : List Plan) (guards : List (Formula × List VarId))
+    (k : LiteralKind) (event : Event) (events after : List Event) (trace : List Step) (time rule : ℕ) → Applies k event events after
+    → AllByRecursion (IsUnreadIn k event.name) plans
+    → StaysAfter plans guards (trace_with_step trace time events) (trace_with_step trace time after) rule
+unread_stays met instances_met rest plans guards k event events after trace time rule applies unread =
+    let before : List Step = trace_with_step trace time events in
+    let behind : List Step = trace_with_step trace time after in
+    let differ : DiffersIn k event.name before behind = differs k event events after trace time applies in
+    record {
+      plans_met = AllByRecursion-weaker (IsUnreadIn k event.name) (StaysMetAt guards before behind) plans
+          (λ plan own v can missing. met guards k event.name before behind plan v differ own can missing) unread;
+      instances_met = λ i forced can missing. instances_met guards k event.name before behind plans i forced differ unread can missing;
+      rest = λ plan missed there plain missing. rest k event.name before behind plan no_values missed differ
+          (at_rule (IsUnreadIn k event.name) rule plans plan unread there) plain missing;
+    }
+
+-- and where an event goes of a name in which the plans are falling
+pub falling_stays : FallingStaysMet → FallingInstanceStaysMet → OwnLeavesRest → UnreadLeavesRest → (plans : List Plan)
+    (guards : List (Formula × List VarId)) (event : Event) (events after : List Event) (trace : List Step) (time rule : ℕ)
+    → TakesOut event events after → AllByRecursion (IsFallingIn event.name) plans
+    → ((plan : Plan) → slice_get plans rule ≡ Some plan → KeepsRest event.name plan)
+    → StaysAfter plans guards (trace_with_step trace time events) (trace_with_step trace time after) rule
+falling_stays met instances_met own unread plans guards event events after trace time rule taken falling keeps =
+    let before : List Step = trace_with_step trace time events in
+    let behind : List Step = trace_with_step trace time after in
+    let differ : DiffersIn kind.Suppress event.name before behind = differs kind.Suppress event events after trace time taken in
+    record {
+      plans_met = AllByRecursion-weaker (IsFallingIn event.name) (StaysMetAt guards before behind) plans
+          (λ plan falls v can missing. met guards event.name before behind plan v differ falls can missing) falling;
+      instances_met = λ i forced can missing. instances_met guards event.name before behind plans i forced differ falling can missing;
+      rest = λ plan missed there plain missing. ⊎_elim
+          (λ is. own event.name before behind plan no_values missed differ is missing)
+          (λ is. unread kind.Suppress event.name before behind plan no_values missed differ is.0 is.1 missing)
+          (keeps plan there);
+    }
 
 -- ---- the first
 
@@ -437,9 +483,52 @@ module _ (plans : List Plan) (pending : List Instance) (past : Past) (inserted :
     (events, found.finds, found.wanted, applies, goes.2),
   )
 
-  module _ (met : UnreadStaysMet) (instances_met : UnreadInstanceStaysMet) (rest : UnreadLeavesRest) (can : AllCanBeAsked plans pending past) where
+  -- where what missed nothing stays so after the action for a literal, the rest of the literals is left
+  module _ (can : AllCanBeAsked plans pending past) where
     abbrev guards : List (Formula × List VarId)
     guards = map placed_guard past.guards
+
+    abbrev AfterEach : (events after : List Event) (rule : ℕ) → Type 0
+    AfterEach events after rule =
+        (trace : List Step) → StaysAfter plans guards (trace_with_step trace time events) (trace_with_step trace time after) rule
+
+    pub left_on : (events after : List Event) (rule : ℕ) (literal : Literal) (literals : List Literal)
+        → HasNoRepeats events → Applies literal.kind literal.event events after
+        → ((other : Literal) → Contains literals other → (literal.kind ≡ other.kind → ⊥) → other.event.name ≡ literal.event.name → ⊥)
+        → AfterEach events after rule → ChangesEvents literal.kind literal.event events
+        → WillBeLeft plans pending past inserted time position events rule (literal ∷ literals)
+        → WillBeLeft plans pending past inserted time position after rule literals
+    left_on events after rule literal literals distinct applies apart stays changes left trace stands long not_later =
+        let l = left trace stands long not_later in
+        left_after plans inserted guards events after trace time rule (stays trace)
+        pending l.plan literals l.left can.roots can.instances l.there l.plain l.instances l.roots l.missing
+        (λ found those. ⊎_elim
+        (λ has. ⊎_elim
+        (λ again. absurd (gone literal.kind literal.event events after distinct applies (changes_now trace after literal again.0)))
+        (λ lost. those_again (IsStillWanted (trace_with_step trace time events)) (IsStillWanted (trace_with_step trace time after)) literals has.1 found
+        (λ other there wanted. wanted_now trace events other
+        (still literal.kind other.kind literal.event other.event events after applies (apart other there) (changes_now trace after other wanted)))
+        has.2 lost.1)
+        (subst (λ m. AreThoseWith (IsStillWanted (trace_with_step trace time after)) m found) has.3 those))
+        (λ lacks. absurd (lacks.0 (wanted_now trace events literal changes)))
+        l.those)
+
+    -- after the first action what is left of all of them
+    pub first_left : (given events after : List Event) (rule : ℕ) (action : Action) (literals : List Literal)
+        → 0 < length literals → AfterEach events after rule → HasNoChoices plans rule
+        → IsFoundFrom plans pending past inserted time position given events action rule literals
+        → WillBeLeft plans pending past inserted time position after rule literals
+    first_left given events after rule action literals some stays goes found trace stands long not_later =
+        let was = found.rest trace stands long not_later some in
+        left_after plans inserted guards events after trace time rule (stays trace)
+        pending goes.plan literals literals can.roots can.instances goes.there goes.plain was.0 was.1.0
+        (was.1.1 goes.plan goes.there goes.plain) (λ left those. those)
+
+  module _ (met : UnreadStaysMet) (instances_met : UnreadInstanceStaysMet) (rest : UnreadLeavesRest) (can : AllCanBeAsked plans pending past) where
+    unread_each : (k : LiteralKind) (event : Event) (events after : List Event) (rule : ℕ) → Applies k event events after
+        → AllByRecursion (IsUnreadIn k event.name) plans → AfterEach can events after rule
+    unread_each k event events after rule applies unread trace =
+        unread_stays met instances_met rest plans (map placed_guard past.guards) k event events after trace time rule applies unread
 
     -- and after the action the rest of them is left
     pub left_behind : (events after : List Event) (rule : ℕ) (literal : Literal) (literals : List Literal) (given : List Event)
@@ -448,34 +537,12 @@ module _ (plans : List Plan) (pending : List Instance) (past : Past) (inserted :
         → AreLiteralsBehind plans pending past given (literal ∷ literals) → ChangesEvents literal.kind literal.event events
         → WillBeLeft plans pending past inserted time position events rule (literal ∷ literals)
         → WillBeLeft plans pending past inserted time position after rule literals
-    left_behind events after rule literal literals given distinct applies unread are changes left trace stands long not_later =
-        let l = left trace stands long not_later in
-        left_after met instances_met rest plans inserted guards literal.kind literal.event events after trace time applies unread
-        pending rule l.plan literals l.left can.roots can.instances l.there l.plain l.instances l.roots l.missing
-        (λ found those. ⊎_elim
-        (λ has. ⊎_elim
-        (λ again. absurd (gone literal.kind literal.event events after distinct applies (changes_now trace after literal again.0)))
-        (λ lost. those_again (IsStillWanted (trace_with_step trace time events)) (IsStillWanted (trace_with_step trace time after)) literals has.1 found
-        (λ other there wanted. let leaf = are other (later other literal literals there) in
-        wanted_now trace events other (still literal.kind other.kind literal.event other.event events after applies
-        (leaf_apart literal.kind other.kind literal.event.name leaf.leaf other.leaf other.event (unread_leaf literal.kind literal.event.name plans leaf.leaf unread leaf.there) leaf.is)
-        (changes_now trace after other wanted)))
-        has.2 lost.1)
-        (subst (λ m. AreThoseWith (IsStillWanted (trace_with_step trace time after)) m found) has.3 those))
-        (λ lacks. absurd (lacks.0 (wanted_now trace events literal changes)))
-        l.those)
-
-    -- after the first action what is left of all of them
-    pub left_first : (given events after : List Event) (rule : ℕ) (action : Action) (literals : List Literal)
-        → 0 < length literals → Applies action.kind action.event events after
-        → AllByRecursion (IsUnreadIn action.kind action.event.name) plans → HasNoChoices plans rule
-        → IsFoundFrom plans pending past inserted time position given events action rule literals
-        → WillBeLeft plans pending past inserted time position after rule literals
-    left_first given events after rule action literals some applies unread goes found trace stands long not_later =
-        let was = found.rest trace stands long not_later some in
-        left_after met instances_met rest plans inserted guards action.kind action.event events after trace time applies unread
-        pending rule goes.plan literals literals can.roots can.instances goes.there goes.plain was.0 was.1.0
-        (was.1.1 goes.plan goes.there goes.plain) (λ left those. those)
+    left_behind events after rule literal literals given distinct applies unread are =
+        left_on can events after rule literal literals distinct applies
+        (λ other there. let leaf = are other (later other literal literals there) in
+        leaf_apart literal.kind other.kind literal.event.name leaf.leaf other.leaf other.event
+        (unread_leaf literal.kind literal.event.name plans leaf.leaf unread leaf.there) leaf.is)
+        (unread_each literal.kind literal.event events after rule applies unread)
 
     pub left_spared : NothingClashes plans → (given events after : List Event) (rule : ℕ) (action : Action) (literals : List Literal)
         → 0 < length literals → Applies action.kind action.event events after
@@ -484,9 +551,10 @@ module _ (plans : List Plan) (pending : List Instance) (past : Past) (inserted :
         → WillBeLeft plans pending past inserted time position after rule literals
     left_spared nothing given events after rule action literals some applies apart goes found =
         let wanted = found.wanted in
-        left_first given events after rule action literals some applies
+        first_left can given events after rule action literals some
+        (unread_each action.kind action.event events after rule applies
         (spared_unread plans past.guards action.kind action.event.name nothing
-        (role_of_leaf plans wanted.leaf action.kind action.leaf action.event wanted.there wanted.is) can.roots apart)
+        (role_of_leaf plans wanted.leaf action.kind action.leaf action.event wanted.there wanted.is) can.roots apart))
         goes found
 
     -- ---- what stays after actions that nothing looks for
@@ -504,11 +572,12 @@ module _ (plans : List Plan) (pending : List Instance) (past : Past) (inserted :
         spared_unread plans past.guards action.kind action.event.name nothing
         (role_of_leaf plans wanted.leaf action.kind action.leaf action.event wanted.there wanted.is) can.roots spared.0
         in
+        let gs : List (Formula × List VarId) = map placed_guard past.guards in
+        let stay : AfterEach can before between 0 = unread_each action.kind action.event before between 0 applies unread in
         place_stays waiting nothing given between actions after place more spared.1
         (λ trace stands long later. let at = was trace stands long later in (
           covers_again (Met plans inserted (trace_with_step trace time before)) (Met plans inserted (trace_with_step trace time between)) pending (drop place.instances waiting) at.0
-              (λ i there met_before. (instances_stay met instances_met rest plans inserted guards action.kind action.event before between trace time applies unread
-              (i ∷ []) (AllByRecursion-contains (CanAskOf guards plans) pending i can.instances there, tt) (met_before, tt)).0),
-          roots_stay met instances_met rest plans inserted guards action.kind action.event before between trace time applies unread
-              place.rules 0 plans can.roots unread at.1,
+              (λ i there met_before. (instances_stay plans inserted gs before between trace time 0 (stay trace)
+              (i ∷ []) (AllByRecursion-contains (CanAskOf gs plans) pending i can.instances there, tt) (met_before, tt)).0),
+          roots_stay plans inserted gs before between trace time 0 (stay trace) place.rules can.roots at.1,
         ))

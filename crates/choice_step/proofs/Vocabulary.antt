@@ -28,13 +28,14 @@ pub use Rattle.choice_step.specs.machine.AskedLeaves.{AreAskedActions, IsAskedAc
 pub use Rattle.choice_step.specs.machine.Cases.{always_to_10, due_at_5, empty_at_0, event_r, for_due, for_leaf, for_root, for_second_at, is_number, next_due_at_15, p_and_r, p_at_5, p_by_5}
 pub use Rattle.choice_step.specs.machine.Cases.{p_by_5_and_q_by_3, p_is_there, p_of_1_is_there, p_up_to_5, p_where_no_q, p_where_q, p_with_next, q_always, q_at_15, q_at_3, q_at_7, q_by_5, q_is_not}
 pub use Rattle.choice_step.specs.machine.Cases.{q_is_there, r_is_there, second_due_at_3, second_due_at_5, served_at_5}
+pub use Rattle.choice_step.specs.machine.Batches.{AreBatches, CanBatchAt}
 pub use Rattle.choice_step.specs.machine.FirstActions.{IsActionFor, IsPlainFound, WillFind, action_by, action_found, first_literal, literals_by, plain_by, root_literals, rule_by, rule_found}
 pub use Rattle.choice_step.specs.machine.FittingEvents.{CausesFit, EventsFit, KeepFitting, TraceEventsFit}
 pub use Rattle.choice_step.specs.machine.FittingLaws.{DecidedFits, DrainFits, FollowedFits}
 pub use Rattle.choice_step.specs.machine.JustificationLaws.{DecidedAreJustified, LeastDeadlineIsNeeded, WillBeJustified}
 pub use Rattle.choice_step.specs.machine.Laws.{ActionsAreLawful, AreDistinct, AsleepBeginsNothing, AsleepDecidesNothing, CausesAlone, DecidedIsDistinct, DecidedMissesNothing, DecidesIsOne, DrainIsOne}
 pub use Rattle.choice_step.specs.machine.Laws.{EventsAreActedOnOnce, FollowsIsOne, IsReach, SomeDecision, SomeFollows, SomeInserts}
-pub use Rattle.choice_step.specs.machine.LoopActions.{ActsFor, ActsInTurn, ActsOn, AllCanBeAsked, GoesFrom, IsFoundFrom, LeavesNothing, StaysMet}
+pub use Rattle.choice_step.specs.machine.LoopActions.{ActsFor, ActsInTurn, ActsOn, AllCanBeAsked, GoesFrom, IsFoundFrom, ActsOwn, LeavesNothing, StaysMet}
 pub use Rattle.choice_step.specs.machine.MetPlaces.{CoversMet, NothingBefore, RootsAreMet, WillBeMetBefore}
 pub use Rattle.choice_step.specs.machine.RootLiterals.{IsLeftAt, RootMisses, WasFound, WillBeLeft, WillHaveFound}
 pub use Rattle.choice_step.specs.machine.RuleTriggers.{AllSleep, AreAllIn, GainsNoSuppressed, HasNoneOf, IsAway, woken_by, woken_number}
@@ -44,7 +45,7 @@ pub use Rattle.choice_step.specs.meaning.ActedSteps.{ActedStep, AllAreJustified,
 pub use Rattle.choice_step.specs.meaning.Choice.{Candidate, CandidateMisses, Decides, IsFirstMissing, MissesNothing, Root, Waiting, action_at, action_at_root, action_for, all_asked, is_forced}
 pub use Rattle.choice_step.specs.meaning.Choice.{roots_from, trace_with_step}
 pub use Rattle.choice_step.specs.meaning.Follows.{Follows, GoesOut, InsertsSteps, IsLeastDeadline, IsPassed, NoneIsPassed, StepGoesOut, is_inserted, steps_of}
-pub use Rattle.enf_data.proofs.ListFacts.{Contains-flat_map, Contains-insert, drop_at_item, from_flat_map, nil_not_cons, slice_get_at}
+pub use Rattle.enf_data.proofs.ListFacts.{Contains-flat_map, Contains-insert, drop_at_item, from_flat_map, nil_not_cons, not_both, slice_get_at}
 pub use Rattle.enf_data.proofs.Lists.{AllByRecursion-append, AllByRecursion-contains, AllByRecursion-find, AllByRecursion-from_contains, AllByRecursion-weaker, Contains-append, Contains-map}
 pub use Rattle.enf_data.proofs.Lists.{HasNoRepeats-middle, HasNoRepeats-push, first_or_later, here, later, list_any-Decides, none_in_nil, there_from_get}
 pub use Rattle.enf_data.proofs.SortedSearch.{below_first, tied_between, up_to_last}
@@ -60,6 +61,7 @@ pub use Rattle.enf_data.specs.declared.terms.VarId.{VarId}
 pub use Rattle.enf_data.specs.declared.values.Value.{Value}
 pub use Rattle.enf_data.specs.declared.values.Value.TheVariants.{Text}
 pub use Rattle.enf_data.specs.machine.ValueTests.{value_eq-Decides}
+pub use Rattle.enf_data.specs.machine.EventSets.{without_events}
 pub use Rattle.enf_data.specs.meaning.Data.{IsTrace, no_step, step_at}
 pub use Rattle.enf_data.specs.meaning.Membership.{HasNoRepeats, TakesOut}
 pub use Rattle.enf_data.specs.meaning.Valuations.{Valuation, bindings, no_values, onto_values, value_at, values_of_terms, variable_cmp, with_values}
@@ -83,6 +85,8 @@ pub use Rattle.obligations.specs.machine.AskablePlans.{CanAskIn, CanAskOf, CanAs
 pub use Rattle.obligations.specs.machine.AskingLaws.{PendCanBeAsked, WellFormedCanBeAsked, WellFormedStand}
 pub use Rattle.obligations.specs.machine.Cases.{each_q, p_of_1, q_of_1}
 pub use Rattle.obligations.specs.machine.ExistenceLaws.{MissingExists, MissingOfExists, PendExists}
+pub use Rattle.obligations.specs.machine.FallingLaws.{FallingInstanceStaysMet, FallingStaysMet, OwnLeavesRest}
+pub use Rattle.obligations.specs.machine.FallingNames.{CanBatch, IsFalling, IsFallingIn, KeepsRest}
 pub use Rattle.obligations.specs.machine.FirstMissing.{FirstMissing, FirstMissingOf, FirstOf}
 pub use Rattle.obligations.specs.machine.Leaves.{ChangesEvents, IsBound, IsLeaf, terms_of}
 pub use Rattle.obligations.specs.machine.LossLaws.{DeadlineIsNeeded, MissedIsServed, MissedIsServedPending, PendingIsEarlier, PendingIsOwed, SomethingMissedIsLost, SomethingMissedIsLostPending}

@@ -1,6 +1,7 @@
 pub mod ActionChains
 pub mod AskedLeaves
 pub mod FittingEvents
+pub mod Batches
 pub mod Cases
 pub mod FirstActions
 pub mod FittingLaws

@@ -3,6 +3,7 @@ ghost use Rattle.std.specs.Prelude.{◌≡◌, ◌↔◌, ◌<◌, ◌++◌, ◌
 ghost use Rattle.std.specs.Prelude.{length, map};
 ghost use Rattle.choice_step.specs.machine.LoopActions.{ActsFor, ActsOn, LeavesNothing, StaysMet};
 ghost use Rattle.choice_step.specs.machine.ActionChains.{AreSparedBehind};
+ghost use Rattle.choice_step.specs.machine.Batches.{CanBatchAt};
 ghost use Rattle.choice_step.specs.machine.FirstActions.{IsPlainFound, action_found, root_literals, rule_found};
 ghost use Rattle.enf_data.specs.meaning.Membership.{HasNoRepeats};
 ghost use Rattle.obligations.specs.machine.Leaves.{ChangesEvents};
@@ -10,22 +11,26 @@ ghost use Rattle.past_state.specs.machine.Past.{guard_names};
 ghost use Rattle.plan_terms.specs.machine.StoredPlans.{plan_of};
 
 use crate::actions::{Action, Actions};
+use crate::apply_batch::{act_all, batch_rule};
 use crate::first_missing::{Found, Place, act, action_of, action_of_root, plain_rule};
 use enf_data::event_sets::EventSet;
+use enf_data::events::NameId;
 use enf_data::memory::NoMemory;
-use obligations::laws::unread_stays_met;
+use obligations::laws::{falling_stays_met, unread_stays_met};
 use obligations::{Literal, LiteralKind};
 use past_state::PastState;
 use plan_terms::Plan;
 use std::alloc::Global;
 
 // Does the action for what was found, and then those for what the same root misses after it. It answers the place to
-// go on from, or none where a guard looks for a name that was acted on.
+// go on from, or none where a guard looks for a name that was acted on. What the root suppresses of the given name is
+// all taken out before, though guards look for it.
 #[inline(always)]
 pub fn act_for(
     alloc: Global,
     plans: &[Plan],
     past: &PastState,
+    batch: Option<NameId>,
     time: u64,
     position: u64,
     found: Found<'_>,
@@ -34,6 +39,7 @@ pub fn act_for(
 ) -> Result<Option<Place>, NoMemory>
     requires some { 0 < length found.literals.items }
     requires plain { IsPlainFound (map plan_of plans.now) found }
+    requires batch { IfSome batch (CanBatchAt (map plan_of plans.now) (rule_found found)) }
     requires changes { ChangesEvents (action_found time position found).kind (action_found time position found).event
         events.old }
     ensures acts { OnOk result (ActsFor (map plan_of plans.now) past.now time position
@@ -45,6 +51,7 @@ pub fn act_for(
         (action_found time position found.entry) (rule_found found.entry) (root_literals found.entry) found.entry.place
         events.old events.new place)) }
 {
+    falling_stays_met();
     unread_stays_met();
     let Found {
         asked,
@@ -56,9 +63,15 @@ pub fn act_for(
     let first = literals.remove(0);
     let action = action_of(alloc, asked, first, time, position)?;
     let name = action.event.name;
+    let kind = action.kind;
     act(alloc, events, &action)?;
     push(alloc, actions, action)?;
     if past.looks_for(name) {
+        let Some(rule) = batch_rule(batch, asked, kind, name) else {
+            return Ok(None);
+        };
+        let rest = literals.as_slice();
+        act_all(alloc, rule, name, rest, time, position, events, actions)?;
         return Ok(None);
     }
     let plain = plain_rule(asked);
@@ -134,7 +147,7 @@ fn is_wanted(literal: &Literal, events: &EventSet) -> bool
 
 // Puts an action last. Most steps have one at most, which takes the memory of one.
 #[inline(always)]
-fn push(alloc: Global, actions: &mut Actions, action: Action) -> Result<(), NoMemory>
+pub fn push(alloc: Global, actions: &mut Actions, action: Action) -> Result<(), NoMemory>
     ensures { OnOk result (actions.new ≡ actions.old ++ action ∷ []) }
 {
     if actions.is_empty() {

@@ -3,6 +3,7 @@ ghost use Rattle.std.specs.Prelude.{◌≡◌, ◌<◌, false, IfNone, IfOk, IfS
 ghost use Rattle.choice_step.specs.machine.Situations.{AreAmong, CanDecideSituation, SituationFinds};
 ghost use Rattle.choice_step.specs.machine.Situations.{IsFoundInSituation, IsMetBefore, SituationLeads, NoneIsWoken};
 ghost use Rattle.choice_step.specs.machine.Situations.{situation_plans};
+ghost use Rattle.choice_step.specs.machine.Batches.{AreBatches};
 ghost use Rattle.choice_step.specs.machine.StepChoices.{CanDecide, IsChoice, step_situation};
 ghost use Rattle.choice_step.specs.machine.FirstActions.{rule_found};
 ghost use Rattle.choice_step.specs.machine.RuleTriggers.{GainsNoSuppressed};
@@ -15,6 +16,7 @@ ghost use Rattle.sleepers.specs.machine.Entries.{shown};
 
 use crate::actions::Actions;
 use crate::apply_actions::act_for;
+use crate::batches::Batches;
 use crate::first_missing::{Found, Place, first_action, plain_rule, rule_of};
 use crate::laws::actions_are_justified;
 use crate::rule_triggers::Wakes;
@@ -78,15 +80,18 @@ pub fn choose(
         (IsChoice (step_situation plans.now pending.now past.now time position inserted) events) }
 {
     let wakes = Wakes::of(alloc, plans)?;
+    let batches = Batches::of(alloc, plans)?;
     choose_with(
-        alloc, &wakes, plans, pending, past, time, position, events, inserted,
+        alloc, &wakes, &batches, plans, pending, past, time, position, events, inserted,
     )
 }
 
-/// Decides a step with what wakes the rules, which is made once for the plans.
+/// Decides a step with what wakes the rules and what they suppress that can be taken out at once, which is made once for
+/// the plans.
 pub fn choose_with(
     alloc: Global,
     wakes: &Wakes,
+    batches: &Batches,
     plans: &[Plan],
     pending: &Pending,
     past: &PastState,
@@ -96,6 +101,7 @@ pub fn choose_with(
     inserted: bool,
 ) -> Result<Choice, NoMemory>
     requires wakes { wakes.now ≡ map waking_names (map plan_of plans.now) }
+    requires batches { AreBatches (map plan_of plans.now) batches.now }
     requires can { CanDecide (step_situation plans.now pending.now past.now time position inserted) }
     ensures chosen { IfOk result
         (IsChoice (step_situation plans.now pending.now past.now time position inserted) events) }
@@ -106,6 +112,7 @@ pub fn choose_with(
     let situation = Situation {
         plans,
         wakes,
+        batches,
         pending,
         past,
         time,
@@ -264,11 +271,12 @@ fn act_last(
         → HaveSameEvents (guard_names situation.now.past.now.guards) events.old events.new) }
 {
     unwoken_is_idle();
-    let rule = rule_of(found.asked) as usize;
+    let rule = rule_of(found.asked);
     let reached = act_for(
         alloc,
         situation.plans,
         situation.past,
+        situation.batches.of_rule(rule),
         situation.time,
         situation.position,
         found,
@@ -278,7 +286,7 @@ fn act_last(
     let Some(place) = reached else {
         return Ok(false);
     };
-    if place.instances < waiting.len() || place.rules <= rule {
+    if place.instances < waiting.len() || place.rules <= rule as usize {
         return Ok(false);
     }
     Ok(true)
@@ -353,10 +361,12 @@ fn go_on<'a>(
     let _given = ordered.set().as_slice();
     let mut first = found;
     loop {
+        let rule = rule_of(first.asked);
         let reached = act_for(
             alloc,
             situation.plans,
             situation.past,
+            situation.batches.of_rule(rule),
             situation.time,
             situation.position,
             first,

@@ -4,6 +4,8 @@
 
 pub mod actions;
 mod apply_actions;
+mod apply_batch;
+pub mod batches;
 pub mod choice_loop;
 mod first_missing;
 pub mod idle_steps;
@@ -14,5 +16,6 @@ mod woken_rules;
 pub mod worked_cases;
 
 pub use actions::{Action, Actions};
+pub use batches::Batches;
 pub use choice_loop::{Choice, choose, choose_with};
 pub use rule_triggers::Wakes;

@@ -135,6 +135,7 @@ impl Remembered {
         } = choose_with(
             alloc,
             &facts.wakes,
+            &facts.batches,
             plans,
             &self.pending,
             &self.past,

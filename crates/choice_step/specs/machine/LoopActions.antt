@@ -1,5 +1,6 @@
 -- What the choice loop does for what was found, whatever trace the step stands for.
 use Rattle.enf_data.specs.declared.events.Event.{Event}
+use Rattle.enf_data.specs.declared.events.NameId.{NameId}
 use Rattle.std.specs.List.{AllByRecursion}
 use Rattle.std.specs.Prelude.{◌≡◌, ℕ, Bool, List, [], ◌∷◌, Some, ◌++◌, map}
 use Rattle.plan_terms.specs.meaning.Plans.{NothingClashes, Plan}
@@ -10,6 +11,7 @@ use Rattle.obligations.specs.declared.instances.Instance.{Instance}
 use Rattle.obligations.specs.declared.literals.Literal.{Literal}
 use Rattle.obligations.specs.machine.AskablePlans.{CanAskOf, CanAskRoots}
 use Rattle.choice_step.specs.declared.first_missing.Place.{Place}
+use Rattle.choice_step.specs.machine.Batches.{CanBatchAt}
 use Rattle.choice_step.specs.machine.FirstActions.{WillFind}
 use Rattle.choice_step.specs.machine.MetPlaces.{WillBeMetBefore}
 use Rattle.choice_step.specs.machine.RootLiterals.{WillBeLeft, WillHaveFound}
@@ -43,6 +45,15 @@ abbrev pub ActsOn : Past → (time position rule : ℕ) → List Literal → (be
 ActsOn past time position rule literals before actions after all =
     (plans : List Plan) (pending : List Instance) (inserted : Bool) (given : List Event) → NothingClashes plans
     → AllCanBeAsked plans pending past → AreLiteralsBehind plans pending past given literals
+    → WillBeLeft plans pending past inserted time position before rule literals
+    → GoesFrom plans pending past inserted time position given before actions after all
+
+-- the actions lead on for what is left of the literals of a root, where events of the name can be taken out at once
+abbrev pub ActsOwn : (time position rule : ℕ) → NameId → List Literal → (before : List Event) → List Action
+    → (after : List Event) → List Action → Type 0
+ActsOwn time position rule name literals before actions after all = (plans : List Plan) (pending : List Instance)
+    (past : Past) (inserted : Bool) (given : List Event) → CanBatchAt plans rule name → AllCanBeAsked plans pending past
+    → AreLiteralsBehind plans pending past given literals
     → WillBeLeft plans pending past inserted time position before rule literals
     → GoesFrom plans pending past inserted time position given before actions after all
 

@@ -13,6 +13,7 @@ use Rattle.obligations.specs.declared.present_step.Now.{Now}
 use Rattle.choice_step.specs.declared.first_missing.Found.{Found}
 use Rattle.choice_step.specs.declared.first_missing.Place.{Place}
 use Rattle.choice_step.specs.declared.situation.Situation.{Situation}
+use Rattle.choice_step.specs.machine.Batches.{AreBatches}
 use Rattle.choice_step.specs.machine.FirstActions.{IsPlainFound, WillFind, action_found, root_literals, rule_found}
 use Rattle.choice_step.specs.machine.LoopActions.{GoesFrom, IsFoundFrom}
 use Rattle.choice_step.specs.machine.MetPlaces.{NothingBefore, WillBeMetBefore}
@@ -28,8 +29,9 @@ abbrev pub step_of_situation : Situation → StepSituation
 step_of_situation situation = step_situation situation.plans.now situation.pending.now situation.past.now situation.time
     situation.position situation.inserted
 
--- the step can be decided, and what wakes the rules is that of their plans
+-- the step can be decided, and what wakes the rules and what can be taken out at once is that of their plans
 pub record CanDecideSituation (situation : Situation) : Type 0 where
+  pub batches : AreBatches (situation_plans situation) situation.batches.now
   pub wakes : situation.wakes.now ≡ map waking_names (situation_plans situation)
   pub step : CanDecide (step_of_situation situation)
 

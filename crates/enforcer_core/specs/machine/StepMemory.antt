@@ -22,6 +22,7 @@ use Rattle.obligations.specs.machine.Successors.{LeadsAt}
 use Rattle.obligations.specs.meaning.Pending.{Pend, PendingAfter}
 use Rattle.pending.specs.machine.PendingLists.{IsPendingListOf}
 use Rattle.choice_step.specs.machine.ActionChains.{ActsFrom}
+use Rattle.choice_step.specs.machine.Batches.{AreBatches}
 use Rattle.choice_step.specs.machine.AskedLeaves.{AreAskedActions}
 use Rattle.choice_step.specs.machine.RuleTriggers.{AllSleep}
 use Rattle.choice_step.specs.meaning.Follows.{is_inserted, GoesOut}
@@ -30,9 +31,11 @@ use Rattle.enforcer_core.specs.machine.MadeSteps.{acted_step}
 use Rattle.enforcer_core.specs.declared.plan_facts.PlanFacts as kept
 use Rattle.enforcer_core.specs.declared.steps.OutStep as made
 
--- what wakes each of them, and, where it says that they look at nothing but now, that no node is of the future
+-- what wakes each of them and what they suppress that can be taken out at once, and, where it says that they look at
+-- nothing but now, that no node is of the future
 pub record AreFactsOf (plans : List Plan) (facts : kept.PlanFacts) : Type 0 where
   pub wakes : facts.wakes ≡ map waking_names plans
+  pub batches : AreBatches plans facts.batches
   pub present : IsTrue facts.looks_at_now → AllByRecursion LooksAtNow plans
 
 -- the greatest number of steps that are emitted

@@ -1,8 +1,10 @@
 use Rattle.choice_step.proofs.Vocabulary.{◌≡◌, ◌<◌, ℕ, Bool, List, [], ◌∷◌, ◌++◌, Contains, length, map, refl, subst, sym, ap, ◌∙◌, true≢false, true, IsTrue, Option, Some, remove, IfSome, later}
 use Rattle.choice_step.proofs.Vocabulary.{HasNoRepeats, Event, Past, guard_names, Plan, plan_of, ChangesEvents, Action, Instance, Literal, ActsFor, ActsOn, LeavesNothing, Applies, AreLiteralsBehind}
-use Rattle.choice_step.proofs.Vocabulary.{WillBeLeft, action_by, action_found, first_literal, literals_by, plain_by, root_literals, rule_by, rule_found, Asked, Found}
+use Rattle.choice_step.proofs.Vocabulary.{WillBeLeft, action_by, action_found, first_literal, literals_by, plain_by, root_literals, rule_by, rule_found, Asked, Found, ActsOwn, CanBatchAt, TakesOut}
 use Rattle.std.specs.Prelude.{slice_index_or}
 use Rattle.choice_step.specs.declared.first_missing.Asked.TheVariants as who
+use Rattle.obligations.specs.declared.literals.LiteralKind.TheVariants as kind
+use Rattle.choice_step.proofs.BatchLemmas.{batch_first}
 use Rattle.choice_step.proofs.LoopActionLemmas.{acted_behind, left_but_first, left_spared, met_behind, place_stays, spared_behind, spared_more, spared_none}
 use Rattle.choice_step.proofs.FirstActionLemmas.{by_root, first_is, rest_is}
 use Rattle.choice_step.proofs.apply_actions.act_for.Goals as goal
@@ -55,21 +57,56 @@ root_of : (found : Found) (plain : Option ℕ) (rule : ℕ) → IfSome plain (λ
     → found.asked ≡ who.Root rule true
 root_of found plain rule of is = subst (λ (o : Option ℕ). IfSome o (λ r. found.asked ≡ who.Root r true)) is of
 
+-- what is said where there is one
+if_some_at : {X : Type 0} (o : Option X) (x : X) (P : Type 0) → IfSome o (λ _. P) → o ≡ Some x → P
+if_some_at o x P said is = subst (λ r. IfSome r (λ _. P)) is said
+
 pub act-requires : goal.act-requires
 act-requires c =
     let is = found_is c.args.time c.args.position c.args.found c.remove-first.result c.in_ok-action.action c.requires.some c.remove-first.ensures.value c.in_ok-action.ensures in
     subst (λ a. ChangesEvents a.kind a.event c.args.events.now) (sym is) c.requires.changes
 
-pub returns-then-looks_for-clause-acts : goal.returns-then-looks_for-clause-acts
-returns-then-looks_for-clause-acts c =
+pub returns-in_default-clause-acts : goal.returns-in_default-clause-acts
+returns-in_default-clause-acts c =
     let is = found_is c.args.time c.args.position c.args.found c.remove-first.result c.in_ok-action.action c.requires.some c.remove-first.ensures.value c.in_ok-action.ensures in
     acts_once (map plan_of c.args.plans.now) c.args.past.now c.args.time c.args.position
     (action_found c.args.time c.args.position c.args.found) c.in_ok-action.action (rule_found c.args.found)
     (root_literals c.args.found)
     c.args.events.now c.act.new.events c.args.actions.now c.push.new.actions is c.in_ok-push.ensures c.in_ok-act.ensures
 
-pub returns-in_default-clause-acts : goal.returns-in_default-clause-acts
-returns-in_default-clause-acts c =
+pub returns-then-looks_for-clause-acts : goal.returns-then-looks_for-clause-acts
+returns-then-looks_for-clause-acts c pending inserted given nothing can found =
+    let is = found_is c.args.time c.args.position c.args.found c.remove-first.result c.in_ok-action.action c.requires.some c.remove-first.ensures.value c.in_ok-action.ensures in
+    let plans = map plan_of c.args.plans.now in
+    let past = c.args.past.now in
+    let action = action_found c.args.time c.args.position c.args.found in
+    let applies : Applies action.kind action.event c.args.events.now c.act.new.events = subst (λ a. Applies a.kind a.event c.args.events.now c.act.new.events) is c.in_ok-act.ensures in
+    let rule = c.in-Some.rule in
+    let name = c.in_ok-action.action.event.name in
+    let root = root_of c.args.found c.batch_rule.result rule c.batch_rule.ensures.root c.in-Some.is in
+    let suppress : action.kind ≡ kind.Suppress = sym (ap (λ (a : Action). a.kind) is) ∙ if_some_at c.batch_rule.result rule (c.in_ok-action.action.kind ≡ kind.Suppress) c.batch_rule.ensures.kind c.in-Some.is in
+    let own : c.args.batch ≡ Some name = if_some_at c.batch_rule.result rule (c.args.batch ≡ Some name) c.batch_rule.ensures.batch c.in-Some.is in
+    let batch : CanBatchAt plans (rule_found c.args.found) name = subst (λ o. IfSome o (CanBatchAt plans (rule_found c.args.found))) own c.requires.batch in
+    let taken : TakesOut action.event c.args.events.now c.act.new.events = subst (λ k. Applies k action.event c.args.events.now c.act.new.events) suppress applies in
+    let left =
+    left_rest plans past c.args.time c.args.position c.args.found c.remove-first.new.self.items c.requires.some c.remove-first.ensures.items rule root pending inserted c.args.events.now c.act.new.events
+    c.as_slice-given.ensures.distinct applies
+    (batch_first c.falling_stays_met.ensures.plans c.falling_stays_met.ensures.instances c.falling_stays_met.ensures.rest c.unread_stays_met.ensures.rest
+    plans pending past inserted c.args.time c.args.position (rule_found c.args.found) name batch can
+    given c.args.events.now c.act.new.events action (root_literals c.args.found)
+    (subst (λ ls. 0 < length ls) (sym (whole plans past c.args.time c.args.position c.args.found c.remove-first.new.self.items c.requires.some c.remove-first.ensures.items rule root)) c.requires.some)
+    taken (ap (λ (a : Action). a.event.name) (sym is))
+    (c.requires.plain (is_plain plans past c.args.time c.args.position c.args.found c.remove-first.new.self.items c.requires.some c.remove-first.ensures.items rule root)) found)
+    in
+    let are = others plans past c.args.time c.args.position c.args.found c.remove-first.new.self.items c.requires.some c.remove-first.ensures.items rule root pending given found.literals_are in
+    let acts = subst (λ ls. ActsOwn c.args.time c.args.position rule name ls c.act.new.events c.push.new.actions c.act_all.new.events c.act_all.new.actions)
+    c.as_slice-rest.ensures.value c.in_ok-act_all.ensures in
+    acted_behind plans pending past inserted c.args.time c.args.position given c.args.events.now c.act.new.events c.act_all.new.events c.args.actions.now c.push.new.actions c.act_all.new.actions
+    action (rule_found c.args.found) (root_literals c.args.found) found applies (subst (λ a. c.push.new.actions ≡ c.args.actions.now ++ a ∷ []) is c.in_ok-push.ensures)
+    (acts plans pending past inserted given (subst (λ r. CanBatchAt plans r name) (rule_is plans past c.args.time c.args.position c.args.found c.remove-first.new.self.items c.requires.some c.remove-first.ensures.items rule root) batch) can are left)
+
+pub returns-in_default-plain-clause-acts : goal.returns-in_default-plain-clause-acts
+returns-in_default-plain-clause-acts c =
     let is = found_is c.args.time c.args.position c.args.found c.remove-first.result c.in_ok-action.action c.requires.some c.remove-first.ensures.value c.in_ok-action.ensures in
     acts_once (map plan_of c.args.plans.now) c.args.past.now c.args.time c.args.position
     (action_found c.args.time c.args.position c.args.found) c.in_ok-action.action (rule_found c.args.found)
@@ -83,8 +120,8 @@ returns-then-not-spared-clause-acts c pending inserted given nothing can found =
     let past = c.args.past.now in
     let action = action_found c.args.time c.args.position c.args.found in
     let applies : Applies action.kind action.event c.args.events.now c.act.new.events = subst (λ a. Applies a.kind a.event c.args.events.now c.act.new.events) is c.in_ok-act.ensures in
-    let rule = c.in-Some.rule in
-    let root = root_of c.args.found c.plain_rule-plain.result rule c.plain_rule-plain.ensures c.in-Some.is in
+    let rule = c.in-Some-plain.rule in
+    let root = root_of c.args.found c.plain_rule-plain.result rule c.plain_rule-plain.ensures c.in-Some-plain.is in
     let left =
     left_rest plans past c.args.time c.args.position c.args.found c.remove-first.new.self.items c.requires.some c.remove-first.ensures.items rule root pending inserted c.args.events.now c.act.new.events
     c.as_slice-given.ensures.distinct applies
@@ -109,8 +146,8 @@ returns-clause-acts c pending inserted given nothing can found =
     let past = c.args.past.now in
     let action = action_found c.args.time c.args.position c.args.found in
     let applies : Applies action.kind action.event c.args.events.now c.act.new.events = subst (λ a. Applies a.kind a.event c.args.events.now c.act.new.events) is c.in_ok-act.ensures in
-    let rule = c.in-Some.rule in
-    let root = root_of c.args.found c.plain_rule-plain.result rule c.plain_rule-plain.ensures c.in-Some.is in
+    let rule = c.in-Some-plain.rule in
+    let root = root_of c.args.found c.plain_rule-plain.result rule c.plain_rule-plain.ensures c.in-Some-plain.is in
     let left =
     left_rest plans past c.args.time c.args.position c.args.found c.remove-first.new.self.items c.requires.some c.remove-first.ensures.items rule root pending inserted c.args.events.now c.act.new.events
     c.as_slice-given.ensures.distinct applies
@@ -143,8 +180,8 @@ returns-clause-met c pending waiting inserted given nothing can found before =
     let past = c.args.past.now in
     let action = action_found c.args.time c.args.position c.args.found in
     let applies : Applies action.kind action.event c.args.events.now c.act.new.events = subst (λ a. Applies a.kind a.event c.args.events.now c.act.new.events) is c.in_ok-act.ensures in
-    let rule = c.in-Some.rule in
-    let root = root_of c.args.found c.plain_rule-plain.result rule c.plain_rule-plain.ensures c.in-Some.is in
+    let rule = c.in-Some-plain.rule in
+    let root = root_of c.args.found c.plain_rule-plain.result rule c.plain_rule-plain.ensures c.in-Some-plain.is in
     let left =
     left_rest plans past c.args.time c.args.position c.args.found c.remove-first.new.self.items c.requires.some c.remove-first.ensures.items rule root pending inserted c.args.events.now c.act.new.events
     c.as_slice-given.ensures.distinct applies
@@ -160,8 +197,8 @@ returns-clause-met c pending waiting inserted given nothing can found before =
     (c.in_ok-spared.ensures.left c.if-not-spared.false)
     plans pending inserted given nothing can are left) before
 
-pub returns-in_default-clause-met : goal.returns-in_default-clause-met
-returns-in_default-clause-met c pending waiting inserted given nothing can found before =
+pub returns-in_default-plain-clause-met : goal.returns-in_default-plain-clause-met
+returns-in_default-plain-clause-met c pending waiting inserted given nothing can found before =
     let is = found_is c.args.time c.args.position c.args.found c.remove-first.result c.in_ok-action.action c.requires.some c.remove-first.ensures.value c.in_ok-action.ensures in
     let plans = map plan_of c.args.plans.now in
     let past = c.args.past.now in

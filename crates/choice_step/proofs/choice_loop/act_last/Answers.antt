@@ -1,9 +1,16 @@
 use Rattle.choice_step.proofs.Vocabulary.{refl, subst, arith, IfSome, length-map, guard_names, AreSparedBehind, StaysMet, action_found, root_literals, rule_found, situation_plans, shown}
 use Rattle.choice_step.proofs.PlaceLemmas.{fewer_on, led_on, more_on, none_behind, on_first, place_on, same_on}
+use Rattle.choice_step.proofs.BatchLemmas.{batch_of}
 use Rattle.choice_step.proofs.choice_loop.act_last.Goals as goal
 
 pub act_for-requires : goal.act_for-requires
-act_for-requires c = record { some = c.requires.found.0; plain = c.requires.found.1; changes = c.requires.found.2.wanted.changes }
+act_for-requires c = record {
+  some = c.requires.found.0;
+  plain = c.requires.found.1;
+  batch = batch_of (situation_plans c.args.situation.now) c.args.situation.now.batches.now (rule_found c.args.found) c.rule_of-rule.result
+      c.of_rule.result c.requires.can.batches c.rule_of-rule.ensures c.of_rule.ensures;
+  changes = c.requires.found.2.wanted.changes;
+}
 
 pub returns-in_default-clause-acts : goal.returns-in_default-clause-acts
 returns-in_default-clause-acts c = led_on c.args.situation.now (shown c.args.waiting.now) c.requires.can

@@ -7,7 +7,7 @@ use Rattle.choice_step.proofs.choice_loop.choose_with.Goals.{Then-ended}
 use Rattle.choice_step.proofs.choice_loop.choose_with.Goals as goal
 
 pub go_round-requires : goal.go_round-requires
-go_round-requires c = record { can = record { wakes = c.requires.wakes; step = c.requires.can } }
+go_round-requires c = record { can = record { batches = c.requires.batches; wakes = c.requires.wakes; step = c.requires.can } }
 
 pub loop-actions-init : goal.loop-actions-init
 loop-actions-init c =

@@ -1,6 +1,7 @@
 use Rattle.choice_step.proofs.Vocabulary.{None, subst, arith, IfNone, IfSome, HasNoRepeats, guard_names, AreSparedBehind, StaysMet, action_found, root_literals, rule_found, SituationFinds}
 use Rattle.choice_step.proofs.Vocabulary.{IsFoundInSituation, IsMetBefore, situation_plans, shown}
 use Rattle.choice_step.proofs.PlaceLemmas.{few_on, fewer_on, led_on, longer, more_on, on_first, place_on, same_on}
+use Rattle.choice_step.proofs.BatchLemmas.{batch_of}
 use Rattle.choice_step.proofs.choice_loop.go_on.Goals as goal
 
 pub loop-reached-init : goal.loop-reached-init
@@ -8,7 +9,13 @@ loop-reached-init c =
     on_first c.args.situation.now (shown c.args.waiting.now) c.args.ordered.now c.args.actions.now c.args.found c.args.events.now c.requires.same c.requires.found c.requires.place
 
 pub act_for-requires : goal.act_for-requires
-act_for-requires c = record { some = c.loop-reached.invariant.found.0; plain = c.loop-reached.invariant.found.1; changes = c.loop-reached.invariant.found.2.wanted.changes }
+act_for-requires c = record {
+  some = c.loop-reached.invariant.found.0;
+  plain = c.loop-reached.invariant.found.1;
+  batch = batch_of (situation_plans c.args.situation.now) c.args.situation.now.batches.now (rule_found c.loop-reached.first) c.rule_of-rule.result
+      c.of_rule.result c.requires.can.batches c.rule_of-rule.ensures c.of_rule.ensures;
+  changes = c.loop-reached.invariant.found.2.wanted.changes;
+}
 
 pub next_from-requires : goal.next_from-requires
 next_from-requires c =
