@@ -1,6 +1,6 @@
 //! The log: it is taken from the gate piece by piece, and all records that a piece completes are
 //! enforced, and their lines and those of their actions given, before the next read.
-ghost use Rattle.std.specs.Prelude.{◌≡◌, ◌<◌, ◌≤◌, ◌^◌, IfOk, IfErr, List, [], OnOk, false, None};
+ghost use Rattle.std.specs.Prelude.{◌≡◌, ◌<◌, ◌≤◌, ◌^◌, IfOk, IfErr, List, [], OnErr, OnOk, false, None};
 ghost use Rattle.std.specs.Prelude.{length};
 ghost use Rattle.formula_reader.specs.machine.StoredRules.{policy_rules_of};
 ghost use Rattle.enf_data.specs.declared.steps.Step.{Step};
@@ -322,6 +322,8 @@ fn enforce_item<G: Sink, R: Sink>(
     ensures cut { IfErr result (CutsItem names.now.signature.now (policy_rules_of names.now.policy.now) (record_of item)
         (log_moment enforcer.old (seen_of (G.seen gate.old) (R.seen report.old)))
         (seen_of (G.seen gate.new) (R.seen report.new))) }
+    // Where the time falls, that is the answer.
+    ensures in_time { enforcer.old.stopped ≡ false → OnErr result (enforcer.old.clock ≤ time_of (record_of item)) }
     ensures stays { reader.new ≡ reader.old }
 {
     match take_item(alloc, enforcer, item) {
