@@ -1,9 +1,9 @@
 -- What is left of the literals of a root whose events are taken out at once.
-use Rattle.choice_step.proofs.Vocabulary.{◌≡◌, ◌∙◌, ◌<◌, ℕ, zero, suc, Bool, List, [], ◌∷◌, ◌++◌, Option, None, Some, Contains, ◌⊎◌, inl, inr, length, map, refl, sym, subst, ap, ⊎_elim}
-use Rattle.choice_step.proofs.Vocabulary.{slice_get, none-some, same_Some, AllByRecursion, AllByRecursion-contains, HasNoRepeats, TakesOut, from_flat_map, Event, NameId, Past}
-use Rattle.choice_step.proofs.Vocabulary.{placed_guard, nodes, Plan, CausePlan, SuppressPlan, Both, Either, TestOr, Guarded, EventuallyPlan, AlwaysPlan, UntilPlan, NextPlan, flat_map, IsLeaf}
-use Rattle.choice_step.proofs.Vocabulary.{ChangesEvents, FallingInstanceStaysMet, FallingStaysMet, OwnLeavesRest, UnreadLeavesRest, IsFalling, IsFallingIn, KeepsRest, AreBatches, CanBatchAt, IfSome}
-use Rattle.choice_step.proofs.Vocabulary.{Action, Instance, Literal, LiteralKind, AllCanBeAsked, Applies, HasNoChoices, AreLiteralsBehind, IsFoundFrom, WillBeLeft}
+use Rattle.choice_step.proofs.Vocabulary.{◌≡◌, ◌∙◌, ◌<◌, ℕ, zero, suc, Bool, List, [], ◌∷◌, ◌++◌, Option, None, Some, Contains, ◌⊎◌, inl, inr, length, map, refl, sym, subst, ap, ⊎_elim, slice_get}
+use Rattle.choice_step.proofs.Vocabulary.{none-some, same_Some, AllByRecursion, AllByRecursion-contains, HasNoRepeats, TakesOut, from_flat_map, Event, NameId, Past, placed_guard, nodes, Plan}
+use Rattle.choice_step.proofs.Vocabulary.{CausePlan, SuppressPlan, Both, Either, TestOr, Guarded, EventuallyPlan, AlwaysPlan, UntilPlan, NextPlan, flat_map, IsLeaf, ChangesEvents}
+use Rattle.choice_step.proofs.Vocabulary.{FallingInstanceStaysMet, FallingStaysMet, OwnLeavesRest, UnreadLeavesRest, IsFalling, IsFallingIn, KeepsRest, AreBatches, CanBatchAt, IfSome, Action}
+use Rattle.choice_step.proofs.Vocabulary.{Instance, Literal, LiteralKind, AllCanBeAsked, Applies, HasNoChoices, AreLiteralsBehind, IsFoundFrom, WillBeLeft}
 use Rattle.choice_step.proofs.LoopActionLemmas.{falling_stays, first_left, left_on}
 use Rattle.obligations.specs.declared.literals.LiteralKind.TheVariants as kind
 

@@ -1,7 +1,7 @@
 -- A round begins with the instances that wait: all others sleep, and miss nothing.
-use Rattle.choice_step.proofs.Vocabulary.{◌≡◌, ℕ, Bool, false, List, [], ◌∷◌, Contains, ⊎_elim, inl, inr, sym, ap, subst, arith, ◌<◌, ◌∙◌, step_moment, AllByRecursion, here, later, Event, Step}
-use Rattle.choice_step.proofs.Vocabulary.{VarId, Formula, Plan, time_now, MissingOfExists, MissingOf, CanAskOf, Instance, AllButThose, HasNone, SleepsNow, SleepersMissNothing, EarlyMissNothing, Listed, Wait, IsWaitOf, IsPendingListOf, PendingList, listed_instances, is_forced}
-use Rattle.choice_step.proofs.Vocabulary.{trace_with_step, CoversMet}
+use Rattle.choice_step.proofs.Vocabulary.{◌≡◌, ℕ, Bool, false, List, [], ◌∷◌, Contains, ⊎_elim, inl, inr, sym, ap, subst, arith, ◌<◌, ◌∙◌, step_moment, AllByRecursion, here, later, Event, Step, VarId}
+use Rattle.choice_step.proofs.Vocabulary.{Formula, Plan, time_now, MissingOfExists, MissingOf, CanAskOf, Instance, AllButThose, HasNone, SleepsNow, SleepersMissNothing, EarlyMissNothing, Listed, Wait}
+use Rattle.choice_step.proofs.Vocabulary.{IsWaitOf, IsPendingListOf, PendingList, listed_instances, is_forced, trace_with_step, CoversMet}
 use Rattle.pending.proofs.MomentLemmas.{before_last, not_begun, not_forced}
 use Rattle.choice_step.proofs.UniquenessLemmas.{last_step}
 use Rattle.choice_step.proofs.FirstActionLemmas.{Met}

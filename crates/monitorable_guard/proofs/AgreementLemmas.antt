@@ -2,8 +2,8 @@
 use Rattle.monitorable_guard.proofs.Vocabulary.{◌≡◌, ◌+◌, ◌<ℤ◌, ◌≤ℤ◌, ◌⊎◌, ◌↔◌, inl, inr, ⊎_elim, List, [], ◌∷◌, ◌++◌, length, take, drop, Contains, refl, sym, subst, ◌∙◌, arith, length-append}
 use Rattle.monitorable_guard.proofs.Vocabulary.{length-take, length-drop, take-append-drop, Valuation, value_at, value_of_term, with_values, Event, VarId, Value, value_alike, values_alike, Formula}
 use Rattle.monitorable_guard.proofs.Vocabulary.{True, False, Atom, Equal, Less, AtMost, Not, And, Or, Implies, Exists, Forall, Prev, Next, Once, Historically, Since, Eventually, Always, Until, IsFree}
-use Rattle.monitorable_guard.proofs.Vocabulary.{IsEventAmong, AreSameValues, AreNumbersInOrder, AgreeOnFreeVariables, agree_back as turn, first_or_later, none_in_nil, among_or_not}
-use Rattle.monitorable_guard.proofs.Vocabulary.{value_at-bound, value_at-other, same_or_other, Relation, HasValuation, FitOperators, HoldsNow, FirstHas, outermost, tables_beyond}
+use Rattle.monitorable_guard.proofs.Vocabulary.{IsEventAmong, AreSameValues, AreNumbersInOrder, AgreeOnFreeVariables, agree_back as turn, first_or_later, none_in_nil, among_or_not, value_at-bound}
+use Rattle.monitorable_guard.proofs.Vocabulary.{value_at-other, same_or_other, Relation, HasValuation, FitOperators, HoldsNow, FirstHas, outermost, tables_beyond}
 use Rattle.std.specs.FinMap as finite
 
 pub fit_front : (fs gs : List Formula) (tables : List Relation) → FitOperators (fs ++ gs) tables → FitOperators fs tables

@@ -1,9 +1,9 @@
 -- Whether a formula has an answer, from whether its parts have.
 use Rattle.monitorable_guard.proofs.Vocabulary.{◌≡◌, ℕ, ◌+◌, Bool, true, false, not, ◌⊎◌, inl, inr, ⊎_elim, List, [], ◌∷◌, length, drop, Option, None, Some, IsTrue, Contains, ◌↔◌, refl, sym, subst}
-use Rattle.monitorable_guard.proofs.Vocabulary.{◌∙◌, false≢true, Result, Ok, Err, IfOk, none_in_nil, Valuation, value_at, no_values, valuation_of, Event, NameId, Term, VarId, Value}
-use Rattle.monitorable_guard.proofs.Vocabulary.{Formula, Atom, And, Or, Exists, Classically, agrees_itself, here, table_row-length, filled_keeps, filled_unbound, filled_from_row, Relation}
-use Rattle.monitorable_guard.proofs.Vocabulary.{IsTable, HasValuation, IsBoundSame, none-some, AreOpenUnder, CanAskFormula, HasAnswers, IsGuardAnswer, IsBoundBy, IsMatchAmong}
-use Rattle.monitorable_guard.proofs.Vocabulary.{FirstGivesUnder, FitOperators, HoldsNow, FirstHas, outermost, tables_beyond, FreeWithin, cell_some, value_of_term, map}
+use Rattle.monitorable_guard.proofs.Vocabulary.{◌∙◌, false≢true, Result, Ok, Err, IfOk, none_in_nil, Valuation, value_at, no_values, valuation_of, Event, NameId, Term, VarId, Value, Formula, Atom}
+use Rattle.monitorable_guard.proofs.Vocabulary.{And, Or, Exists, Classically, agrees_itself, here, table_row-length, filled_keeps, filled_unbound, filled_from_row, Relation, IsTable, HasValuation}
+use Rattle.monitorable_guard.proofs.Vocabulary.{IsBoundSame, none-some, AreOpenUnder, CanAskFormula, HasAnswers, IsGuardAnswer, IsBoundBy, IsMatchAmong, FirstGivesUnder, FitOperators, HoldsNow}
+use Rattle.monitorable_guard.proofs.Vocabulary.{FirstHas, outermost, tables_beyond, FreeWithin, cell_some, value_of_term, map}
 use Rattle.valuations.specs.machine.Tables.{AgreesWhereBound}
 use Rattle.monitorable_guard.proofs.AgreementLemmas.{now_agrees, has_agrees, fit_front}
 use Rattle.monitorable_guard.proofs.EvaluationLemmas.{value_from, bound_from, bound_as, bound_or_not, same_on, extends_filled, atom_to, atom_from, both_to, both_from, either_to, either_from}

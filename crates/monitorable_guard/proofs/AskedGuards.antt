@@ -1,8 +1,8 @@
 -- What a guard's formula answers, from what is answered for it as it is asked.
-use Rattle.monitorable_guard.proofs.Vocabulary.{◌≡◌, ℕ, zero, suc, ◌+◌, ◌<◌, ◌⊎◌, inl, inr, ⊎_elim, List, [], ◌∷◌, ◌++◌, length, get_or, drop, Contains, ◌↔◌, sym, subst, arith}
-use Rattle.monitorable_guard.proofs.Vocabulary.{Bool, IsTrue, Result, Ok, Err, IfOk, among_or_not, Contains-append, Contains-append_left, Contains-append_right, Valuation, Event, VarId, Formula}
-use Rattle.monitorable_guard.proofs.Vocabulary.{IsFree, Relation, FitOperators, HoldsNow, outermost, FreeWithin, AreOpen, AreOpenUnder, CanEvaluate, HasAnswers, IsSolution}
-use Rattle.monitorable_guard.proofs.Vocabulary.{FirstHas, FirstGivesUnder, HasValuation, length-map, IsPartOfValuation, CanAskFormula, Safe}
+use Rattle.monitorable_guard.proofs.Vocabulary.{◌≡◌, ℕ, zero, suc, ◌+◌, ◌<◌, ◌⊎◌, inl, inr, ⊎_elim, List, [], ◌∷◌, ◌++◌, length, get_or, drop, Contains, ◌↔◌, sym, subst, arith, Bool, IsTrue, Result}
+use Rattle.monitorable_guard.proofs.Vocabulary.{Ok, Err, IfOk, among_or_not, Contains-append, Contains-append_left, Contains-append_right, Valuation, Event, VarId, Formula, IsFree, Relation}
+use Rattle.monitorable_guard.proofs.Vocabulary.{FitOperators, HoldsNow, outermost, FreeWithin, AreOpen, AreOpenUnder, CanEvaluate, HasAnswers, IsSolution, FirstHas, FirstGivesUnder, HasValuation}
+use Rattle.monitorable_guard.proofs.Vocabulary.{length-map, IsPartOfValuation, CanAskFormula, Safe}
 use Rattle.monitorable_guard.proofs.CycleLemmas.{fit_short}
 use Rattle.monitorable_guard.proofs.GuardLemmas.{can_ask}
 use Rattle.monitorable_guard.proofs.PartLemmas.{fresh_within}

@@ -1,8 +1,7 @@
 -- What the functions that put a formula in order hand on to each other.
-use Rattle.monitorable_guard.proofs.Vocabulary.{◌≡◌, ◌^◌, ℕ, ◌+◌, ◌<◌, ◌≤◌, ◌⊎◌, inl, inr, ⊎_elim, List, [], ◌∷◌, ◌++◌, length, get_or, take, Contains, ◌↔◌, sym, ap, subst, ◌∙◌, arith}
-use Rattle.monitorable_guard.proofs.Vocabulary.{None, Result, Ok, Err, IfOk, length-append, take_more, take-length, VarId, Formula, And, IsFree, Safe, outermost, True}
-use Rattle.monitorable_guard.proofs.Vocabulary.{False, Atom, Equal, Less, AtMost, Not, Or, Implies, Exists, Forall, Prev, Next, Once, Historically, Since, Eventually, Always, Until, BoundOrFreeIn}
-use Rattle.monitorable_guard.proofs.Vocabulary.{formula_size}
+use Rattle.monitorable_guard.proofs.Vocabulary.{◌≡◌, ◌^◌, ℕ, ◌+◌, ◌<◌, ◌≤◌, ◌⊎◌, inl, inr, ⊎_elim, List, [], ◌∷◌, ◌++◌, length, get_or, take, Contains, ◌↔◌, sym, ap, subst, ◌∙◌, arith, None, Result}
+use Rattle.monitorable_guard.proofs.Vocabulary.{Ok, Err, IfOk, length-append, take_more, take-length, VarId, Formula, And, IsFree, Safe, outermost, True, False, Atom, Equal, Less, AtMost, Not, Or}
+use Rattle.monitorable_guard.proofs.Vocabulary.{Implies, Exists, Forall, Prev, Next, Once, Historically, Since, Eventually, Always, Until, BoundOrFreeIn, formula_size}
 use Rattle.monitorable_guard.proofs.ReorderingParts.{conjuncts_are}
 use Rattle.monitorable_guard.proofs.SafetyLemmas.{safe_same}
 use Rattle.monitorable_guard.proofs.TurnLemmas.{listed_known, turn_parted}

@@ -1,6 +1,6 @@
 -- What can be evaluated can be with its parts in another order.
-use Rattle.monitorable_guard.proofs.Vocabulary.{ℕ, ◌+◌, inl, inr, ⊎_elim, List, ◌++◌, length, Option, None, Some, ◌↔◌, VarId, Formula, Not, And, Or, Implies, Exists, Forall, IsFree, Safe}
-use Rattle.monitorable_guard.proofs.Vocabulary.{SafeBelow, BoundOrFreeIn, outermost}
+use Rattle.monitorable_guard.proofs.Vocabulary.{ℕ, ◌+◌, inl, inr, ⊎_elim, List, ◌++◌, length, Option, None, Some, ◌↔◌, VarId, Formula, Not, And, Or, Implies, Exists, Forall, IsFree, Safe, SafeBelow}
+use Rattle.monitorable_guard.proofs.Vocabulary.{BoundOrFreeIn, outermost}
 use Rattle.monitorable_guard.proofs.ReorderingParts.{part_free}
 use Rattle.monitorable_guard.proofs.SafetyGrowth.{AreKnown, known_with, safe_grows}
 use Rattle.monitorable_guard.proofs.SafetyLemmas.{Same, safe_same}

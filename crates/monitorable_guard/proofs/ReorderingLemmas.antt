@@ -1,9 +1,8 @@
 -- Formulas whose conjuncts stand in another order: alone, joined, and below other operators.
-use Rattle.monitorable_guard.proofs.Vocabulary.{◌≡◌, ℕ, zero, suc, ◌+◌, ◌<◌, ◌⊎◌, inl, inr, ⊎_elim, List, [], ◌∷◌, ◌++◌, length, get_or, drop, Contains, ◌↔◌, refl, sym, ap, subst, ◌∙◌}
-use Rattle.monitorable_guard.proofs.Vocabulary.{arith, length-append, length-map, drop-drop, get_or-drop, Contains-append, Contains-append_left, Contains-append_right, here, none_in_nil}
-use Rattle.monitorable_guard.proofs.Vocabulary.{only_item, Valuation, with_values, Event, VarId, Formula, True, False, Atom, Equal, Less, AtMost, Not, And, Or, Implies, Exists, Forall, Prev}
-use Rattle.monitorable_guard.proofs.Vocabulary.{Next, Once, Historically, Since, Eventually, Always, Until, IsFree, BindsFresh, Relation, HasValuation, FitOperators, HoldsNow, FirstHas, outermost}
-use Rattle.monitorable_guard.proofs.Vocabulary.{tables_beyond}
+use Rattle.monitorable_guard.proofs.Vocabulary.{◌≡◌, ℕ, zero, suc, ◌+◌, ◌<◌, ◌⊎◌, inl, inr, ⊎_elim, List, [], ◌∷◌, ◌++◌, length, get_or, drop, Contains, ◌↔◌, refl, sym, ap, subst, ◌∙◌, arith}
+use Rattle.monitorable_guard.proofs.Vocabulary.{length-append, length-map, drop-drop, get_or-drop, Contains-append, Contains-append_left, Contains-append_right, here, none_in_nil, only_item}
+use Rattle.monitorable_guard.proofs.Vocabulary.{Valuation, with_values, Event, VarId, Formula, True, False, Atom, Equal, Less, AtMost, Not, And, Or, Implies, Exists, Forall, Prev, Next, Once}
+use Rattle.monitorable_guard.proofs.Vocabulary.{Historically, Since, Eventually, Always, Until, IsFree, BindsFresh, Relation, HasValuation, FitOperators, HoldsNow, FirstHas, outermost, tables_beyond}
 use Rattle.monitorable_guard.specs.machine.Reordering.{no_table, renumbered, PlacedFormula, EachPlaced, SomePlaced, only_formula, IsReordered}
 use Rattle.std.proofs.Math.Seq.{drop-append_seam}
 use Rattle.std.proofs.lemmas.List.{map-append, get_or_append_left, append_assoc}

@@ -1,7 +1,7 @@
 -- Formulas whose parts stand in another order, and the conjuncts of a formula.
-use Rattle.monitorable_guard.proofs.Vocabulary.{◌≡◌, ℕ, ◌+◌, ◌<◌, ◌≤◌, ◌⊎◌, inl, inr, ⊎_elim, List, ◌++◌, length, drop, Contains, ◌↔◌, sym, subst, arith, length-append, drop-drop}
-use Rattle.monitorable_guard.proofs.Vocabulary.{Contains-append, Contains-append_left, Contains-append_right, Valuation, with_values, Event, VarId, Formula, And, Not, Or, Implies, Exists}
-use Rattle.monitorable_guard.proofs.Vocabulary.{Forall, IsFree, BindsFresh, Relation, FitOperators, HoldsNow, outermost, tables_beyond}
+use Rattle.monitorable_guard.proofs.Vocabulary.{◌≡◌, ℕ, ◌+◌, ◌<◌, ◌≤◌, ◌⊎◌, inl, inr, ⊎_elim, List, ◌++◌, length, drop, Contains, ◌↔◌, sym, subst, arith, length-append, drop-drop, Contains-append}
+use Rattle.monitorable_guard.proofs.Vocabulary.{Contains-append_left, Contains-append_right, Valuation, with_values, Event, VarId, Formula, And, Not, Or, Implies, Exists, Forall, IsFree, BindsFresh}
+use Rattle.monitorable_guard.proofs.Vocabulary.{Relation, FitOperators, HoldsNow, outermost, tables_beyond}
 use Rattle.monitorable_guard.proofs.AgreementLemmas.{fit_front, fit_back}
 use Rattle.monitorable_guard.proofs.PartLemmas.{fresh_within}
 use Rattle.monitorable_guard.proofs.ReorderingLemmas.{each_alone, alone_from, some_alone, alone_some, each_joined, each_front, each_back, some_front, some_back, some_parted, counted_both, within_both}

@@ -1,7 +1,7 @@
 -- Formulas that can be evaluated one after another, each where the variables of those before it are bound too.
-use Rattle.monitorable_guard.proofs.Vocabulary.{◌≡◌, ℕ, zero, suc, ◌+◌, ◌<◌, ◌≤◌, ◌⊎◌, inl, inr, ⊎_elim, List, [], ◌∷◌, ◌++◌, length, get_or, map, Contains, ◌↔◌, refl, sym, ap, subst, ◌∙◌}
-use Rattle.monitorable_guard.proofs.Vocabulary.{arith, None, here, later, first_or_later, none_in_nil, among_or_not, VarId, Formula, And, IsFree, Safe, BoundOrFreeIn}
-use Rattle.monitorable_guard.proofs.Vocabulary.{outermost, formula_size, only_item, Contains-append, Contains-append_left, Contains-append_right}
+use Rattle.monitorable_guard.proofs.Vocabulary.{◌≡◌, ℕ, zero, suc, ◌+◌, ◌<◌, ◌≤◌, ◌⊎◌, inl, inr, ⊎_elim, List, [], ◌∷◌, ◌++◌, length, get_or, map, Contains, ◌↔◌, refl, sym, ap, subst, ◌∙◌, arith}
+use Rattle.monitorable_guard.proofs.Vocabulary.{None, here, later, first_or_later, none_in_nil, among_or_not, VarId, Formula, And, IsFree, Safe, BoundOrFreeIn, outermost, formula_size, only_item}
+use Rattle.monitorable_guard.proofs.Vocabulary.{Contains-append, Contains-append_left, Contains-append_right}
 use Rattle.monitorable_guard.proofs.ReorderingParts.{conjuncts_are}
 use Rattle.monitorable_guard.proofs.SafetyGrowth.{AreKnown, AreWithin, known_with, more_with, safe_grows}
 use Rattle.monitorable_guard.specs.machine.AskingOrder.{total_size}

@@ -1,6 +1,6 @@
 -- What it tells of a formula whether it looks for a name.
-use Rattle.obligations.proofs.Vocabulary.{◌≡◌, ◌∙◌, false, ap, sym, true≢false, Decides, list_any, list_any-Decides, Contains-append_left, Contains-append_right, NameId, Formula, And}
-use Rattle.obligations.proofs.Vocabulary.{Atom, Exists, Or, names_in_formula, GrowsWith, Ignores, is_same_name, Const, Term, Var, VarId, false≢true}
+use Rattle.obligations.proofs.Vocabulary.{◌≡◌, ◌∙◌, false, ap, sym, true≢false, Decides, list_any, list_any-Decides, Contains-append_left, Contains-append_right, NameId, Formula, And, Atom, Exists}
+use Rattle.obligations.proofs.Vocabulary.{Or, names_in_formula, GrowsWith, Ignores, is_same_name, Const, Term, Var, VarId, false≢true}
 use Rattle.std.proofs.lemmas.Bool.Decides.{Decides-eqb, Decides-like}
 use Rattle.enf_data.proofs.ValueEquality.{derived_value_eq-Decides}
 use Rattle.enf_data.specs.contracts.terms.TermPartialEq.TheImpl as terms

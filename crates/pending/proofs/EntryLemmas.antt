@@ -2,8 +2,8 @@
 use Rattle.pending.proofs.Vocabulary.{◌≡◌, ℕ, suc, ◌+◌, ◌<◌, List, [], ◌∷◌, ◌++◌, Contains, ⊎_elim, refl, sym, ap, subst, ◌∙◌, arith, get_or, length, map, AllByRecursion, sum_by-append, map-append}
 use Rattle.pending.proofs.Vocabulary.{AllByRecursion-append, AllByRecursion-of_append, first_or_later, here, later, none_in_nil, Plan, ArePlaced, HasOneMoreEntry, IsFreePlace, entry_places}
 use Rattle.pending.proofs.Vocabulary.{fewer_placed, IsPlaceBefore, Place, places_from, beginning_at, PutsInEntries, TakesOutEntries, Entry, count_due, Instance, wake_patterns_of, ArePendingEntries}
-use Rattle.pending.proofs.Vocabulary.{FitsStep, entries_from, entry_at, items_of, all_listed, listed_instances, IsWaitOf, patterns_at, until_at, early_until, open_until}
-use Rattle.pending.proofs.Vocabulary.{Bool, true, false, cond, nat_lt, inl, inr, early_patterns_of}
+use Rattle.pending.proofs.Vocabulary.{FitsStep, entries_from, entry_at, items_of, all_listed, listed_instances, IsWaitOf, patterns_at, until_at, early_until, open_until, Bool, true, false, cond}
+use Rattle.pending.proofs.Vocabulary.{nat_lt, inl, inr, early_patterns_of}
 
 -- ---- what an entry waits for that is filed at a time
 

@@ -1,6 +1,5 @@
 -- A list of pending instances as its callers see it.
-use Rattle.pending.proofs.Vocabulary.{ℕ, List, [], ◌∷◌, ⊎_elim, inl, inr, ap, Event, AllButThose, IsAsleep, Entry, Instance}
-use Rattle.pending.proofs.Vocabulary.{SleepsNow, all_listed}
+use Rattle.pending.proofs.Vocabulary.{ℕ, List, [], ◌∷◌, ⊎_elim, inl, inr, ap, Event, AllButThose, IsAsleep, Entry, Instance, SleepsNow, all_listed}
 
 -- those that are awake are all but those that sleep
 pub listed_but : (events : List Event) (moment : ℕ) (all rest : List (Entry Instance)) → AllButThose (IsAsleep events moment) all rest

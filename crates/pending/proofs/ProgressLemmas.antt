@@ -1,11 +1,11 @@
 -- What was pending, after a step.
-use Rattle.pending.proofs.Vocabulary.{◌≡◌, ℕ, suc, ◌+◌, ◌-◌, ◌<◌, ◌≤◌, ◌^◌, Bool, true, false, cond, List, [], ◌∷◌, ◌++◌, Contains, ◌⊎◌, inl, inr, ⊎_elim, refl, sym, ap, subst, ◌∙◌, arith}
-use Rattle.pending.proofs.Vocabulary.{length, map, Option, AllByRecursion, append-nil, AllByRecursion-append, AllByRecursion-contains, AllByRecursion-weaker}
-use Rattle.pending.proofs.Vocabulary.{Contains-append, first_or_later, here, later, none_in_nil, Step, Plan, has_deadline, IsAllBut, IsAsleep, entry_places, Place, WasMade, places_from, beginning_at}
-use Rattle.pending.proofs.Vocabulary.{HasNone, CanPutIn, OutcomeGoesOn, IsInOrder, IsOneOr, IsStep, EntryOutcome, PutsInEntries, begun_entries, entries_behind, StepsCanPutIn, StepsGoInOrder, Entry}
-use Rattle.pending.proofs.Vocabulary.{Beginning, IsNowOf, guards_at, time_now, Gathers, AreServed, is_forced_at, ComesOf, NowLeads, AfterExists, After, AtNode, PendingAfter, node_of, IsBegunUnder}
-use Rattle.pending.proofs.Vocabulary.{CanAskOf, HasPart, Instance, Now, EntryBecomes, CarriesPending, WalksEntries, ArePendingEntries, FitsStep, entries_from, items_of, IsPendingListOf}
-use Rattle.pending.proofs.Vocabulary.{EarlyStay, IsWaitOf, Listed, PendingList, SleepersStay, Wait, all_listed, listed_of, step_moment}
+use Rattle.pending.proofs.Vocabulary.{◌≡◌, ℕ, suc, ◌+◌, ◌-◌, ◌<◌, ◌≤◌, ◌^◌, Bool, true, false, cond, List, [], ◌∷◌, ◌++◌, Contains, ◌⊎◌, inl, inr, ⊎_elim, refl, sym, ap, subst, ◌∙◌, arith, length}
+use Rattle.pending.proofs.Vocabulary.{map, Option, AllByRecursion, append-nil, AllByRecursion-append, AllByRecursion-contains, AllByRecursion-weaker, Contains-append, first_or_later, here, later}
+use Rattle.pending.proofs.Vocabulary.{none_in_nil, Step, Plan, has_deadline, IsAllBut, IsAsleep, entry_places, Place, WasMade, places_from, beginning_at, HasNone, CanPutIn, OutcomeGoesOn, IsInOrder}
+use Rattle.pending.proofs.Vocabulary.{IsOneOr, IsStep, EntryOutcome, PutsInEntries, begun_entries, entries_behind, StepsCanPutIn, StepsGoInOrder, Entry, Beginning, IsNowOf, guards_at, time_now}
+use Rattle.pending.proofs.Vocabulary.{Gathers, AreServed, is_forced_at, ComesOf, NowLeads, AfterExists, After, AtNode, PendingAfter, node_of, IsBegunUnder, CanAskOf, HasPart, Instance, Now}
+use Rattle.pending.proofs.Vocabulary.{EntryBecomes, CarriesPending, WalksEntries, ArePendingEntries, FitsStep, entries_from, items_of, IsPendingListOf, EarlyStay, IsWaitOf, Listed, PendingList}
+use Rattle.pending.proofs.Vocabulary.{SleepersStay, Wait, all_listed, listed_of, step_moment}
 use Rattle.pending.proofs.EntryLemmas.{entries_items, entries_places, filed_waits, items_append}
 use Rattle.pending.proofs.MomentLemmas.{before_last, not_begun, not_forced, not_later}
 use Rattle.pending.proofs.WakePatternLemmas.{not_over}

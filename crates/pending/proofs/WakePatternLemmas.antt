@@ -3,8 +3,8 @@ use Rattle.pending.proofs.Vocabulary.{◌≡◌, ℕ, zero, suc, ◌≤◌, Bool
 use Rattle.pending.proofs.Vocabulary.{here, Valuation, values_of_terms, with_values, NameId, Step, Term, VarId, Value, Formula, Plan, CausePlan, SuppressPlan, Both, Either, TestOr, Guarded}
 use Rattle.pending.proofs.Vocabulary.{EventuallyPlan, AlwaysPlan, UntilPlan, NextPlan, HasNone, Pattern, CanAskNode, CanAskOf, Begun, LacksNothing, TakesOrElse, TakesPresent, IfElse, time_now}
 use Rattle.pending.proofs.Vocabulary.{Missing, OfEvent, LiteralUnless, cause_literal, suppress_literal, AreGuardRows, Gathers, last_position, After, AtNode, BecomesAt, MissesAt, MissingOf, node_of}
-use Rattle.pending.proofs.Vocabulary.{IsWindowNotOver, InstanceSleeps, wake_patterns_at, wake_patterns_of, pattern_of, met_by, missed_by, wake_patterns, fails_without, holds_without, BringsFresh, AtEach-weaker}
-use Rattle.pending.proofs.Vocabulary.{Instance, Literal, IsNowIn, InstanceIsEarly, early_patterns, early_patterns_at, early_patterns_of, ◌<◌}
+use Rattle.pending.proofs.Vocabulary.{IsWindowNotOver, InstanceSleeps, wake_patterns_at, wake_patterns_of, pattern_of, met_by, missed_by, wake_patterns, fails_without, holds_without, BringsFresh}
+use Rattle.pending.proofs.Vocabulary.{AtEach-weaker, Instance, Literal, IsNowIn, InstanceIsEarly, early_patterns, early_patterns_at, early_patterns_of, ◌<◌}
 use Rattle.wake_patterns.proofs.PatternLemmas.{Extends, AreUnbound, BindsNew, BringsNew, plan_brings_new, events, not_there, one_of, two_of, of_narrower_some, under_row, guard_fails, guard_holds}
 
 -- ---- lists of which nothing is left

@@ -1,10 +1,10 @@
 -- What is known of rules at positions, as one after another is settled.
 use Rattle.trace_audit.proofs.Vocabulary.{◌≡◌, ℕ, ◌+◌, List, [], ◌∷◌, ◌++◌, length, Option, None, Some, refl, sym, ap, subst, arith, inl, inr, ⊎_elim, ◌⊎◌, ◌∙◌, ◌↔◌, slice_get, cases_lt, option_map}
-use Rattle.trace_audit.proofs.Vocabulary.{length-map, same_Some, slice_get-map, slice_get_within, AllByRecursion-weaker, first_or_later, none_in_nil, no_values, Step, VarId, Formula, Sat}
-use Rattle.trace_audit.proofs.Vocabulary.{formula_for, Plan, formulas_for, NothingElse, RulesAreMet, BeginsRules, RulesCanGoOn, FollowsAsked, FollowsOneAsked, IsRuleBefore, IsRuleBeforeAny}
-use Rattle.trace_audit.proofs.Vocabulary.{IsJudged, IsAskedFor, PutsIn, JudgesStep, asked_at, rule_at, IsAt, AuditMoment, TellsRest, ResidualCanGoOn, PlanHoldsAt, Means, IsBroken, Followed}
-use Rattle.trace_audit.proofs.Vocabulary.{OpenRule, Residual, RuleAt, Contains, Result, Ok, Err, OnOk, OnErr, AllByRecursion-contains, AllByRecursion-from_contains, HasOneMoreRule, AreAmongRules}
-use Rattle.trace_audit.proofs.Vocabulary.{TakesAwake, IsFirstWith, option_to_list, guards_at}
+use Rattle.trace_audit.proofs.Vocabulary.{length-map, same_Some, slice_get-map, slice_get_within, AllByRecursion-weaker, first_or_later, none_in_nil, no_values, Step, VarId, Formula, Sat, formula_for}
+use Rattle.trace_audit.proofs.Vocabulary.{Plan, formulas_for, NothingElse, RulesAreMet, BeginsRules, RulesCanGoOn, FollowsAsked, FollowsOneAsked, IsRuleBefore, IsRuleBeforeAny, IsJudged, IsAskedFor}
+use Rattle.trace_audit.proofs.Vocabulary.{PutsIn, JudgesStep, asked_at, rule_at, IsAt, AuditMoment, TellsRest, ResidualCanGoOn, PlanHoldsAt, Means, IsBroken, Followed, OpenRule, Residual, RuleAt}
+use Rattle.trace_audit.proofs.Vocabulary.{Contains, Result, Ok, Err, OnOk, OnErr, AllByRecursion-contains, AllByRecursion-from_contains, HasOneMoreRule, AreAmongRules, TakesAwake, IsFirstWith}
+use Rattle.trace_audit.proofs.Vocabulary.{option_to_list, guards_at}
 use Rattle.trace_audit.specs.declared.residuals.Residual.TheVariants as stored
 
 -- ---- the order

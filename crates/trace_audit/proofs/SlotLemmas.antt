@@ -1,8 +1,8 @@
 -- Open rules in slots, and the entries for these.
 use Rattle.trace_audit.proofs.Vocabulary.{◌≡◌, ℕ, zero, suc, ◌<◌, List, [], ◌∷◌, ◌++◌, length, Option, None, Some, Contains, set, slice_get, slice_get_within, slice_get-append_left, there_from_get}
-use Rattle.trace_audit.proofs.Vocabulary.{Contains-flat_map, get_or, flat_map-append, option_to_list, append-nil, IfNone, none-some, same_Some, refl, sym, ap, subst, arith, inl, inr, ⊎_elim, ◌⊎◌}
-use Rattle.trace_audit.proofs.Vocabulary.{◌∙◌, cases_eq, here, later, first_or_later, none_in_nil, Contains-append, Contains-append_left, Contains-append_right, Contains-map, Contains-from_map}
-use Rattle.trace_audit.proofs.Vocabulary.{Event, Entry, Place, HasOneMoreEntry, IsAllBut, IsAsleep, ArePlaced, IsFreePlace, IsPlaceBefore, HasNone, beginning_at, not_itself, AuditMoment, StaysAsked}
+use Rattle.trace_audit.proofs.Vocabulary.{Contains-flat_map, get_or, flat_map-append, option_to_list, append-nil, IfNone, none-some, same_Some, refl, sym, ap, subst, arith, inl, inr, ⊎_elim, ◌⊎◌, ◌∙◌}
+use Rattle.trace_audit.proofs.Vocabulary.{cases_eq, here, later, first_or_later, none_in_nil, Contains-append, Contains-append_left, Contains-append_right, Contains-map, Contains-from_map, Event}
+use Rattle.trace_audit.proofs.Vocabulary.{Entry, Place, HasOneMoreEntry, IsAllBut, IsAsleep, ArePlaced, IsFreePlace, IsPlaceBefore, HasNone, beginning_at, not_itself, AuditMoment, StaysAsked}
 use Rattle.trace_audit.proofs.Vocabulary.{WaitsForEvents, AreAmongRules, AreForSlots, HasOneMoreRule, IsForSlot, TakesAhead, TakesAwake, open_in, slot_place, OpenRule}
 
 -- ---- what stands at a place of a list

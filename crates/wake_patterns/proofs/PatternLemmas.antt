@@ -3,9 +3,9 @@ use Rattle.wake_patterns.proofs.Vocabulary.{◌≡◌, ℕ, List, [], ◌∷◌,
 use Rattle.wake_patterns.proofs.Vocabulary.{Contains-append_left, AllByRecursion-of_append, Valuation, value_at, value_of_term, values_of_terms, onto_values, with_values, Event, NameId, Step, Term}
 use Rattle.wake_patterns.proofs.Vocabulary.{Var, Const, VarId, Value, BindsFresh, Formula, And, Atom, Exists, Or, IsFree, IsEventAmong, Sat, new_apart, GuardBindsFresh, Plan, CausePlan, SuppressPlan}
 use Rattle.wake_patterns.proofs.Vocabulary.{Both, Either, TestOr, Guarded, EventuallyPlan, AlwaysPlan, UntilPlan, NextPlan, value_at-with_outside, FitsArg, FitArgs, HasNone, Pattern, AtEach}
-use Rattle.wake_patterns.proofs.Vocabulary.{BringsFresh, BringsFreshUnder, pattern_of, patterns_of_both, narrower, fails_without, holds_without, if_known}
-use Rattle.wake_patterns.proofs.Vocabulary.{cond, nat_lt, least_fixed, known_truth, of_known, of_numbers, value_eq, value_eq-Decides, Decides, Bool, true, false, false≢true, Num, Text, int_lt, int_le, ◌<ℤ◌, ◌≤ℤ◌}
-use Rattle.wake_patterns.proofs.Vocabulary.{AreSameValues, AreNumbersInOrder, True, False, Equal, Less, AtMost, Not, Implies, Forall, ℤ, ints, arith}
+use Rattle.wake_patterns.proofs.Vocabulary.{BringsFresh, BringsFreshUnder, pattern_of, patterns_of_both, narrower, fails_without, holds_without, if_known, cond, nat_lt, least_fixed, known_truth}
+use Rattle.wake_patterns.proofs.Vocabulary.{of_known, of_numbers, value_eq, value_eq-Decides, Decides, Bool, true, false, false≢true, Num, Text, int_lt, int_le, ◌<ℤ◌, ◌≤ℤ◌, AreSameValues}
+use Rattle.wake_patterns.proofs.Vocabulary.{AreNumbersInOrder, True, False, Equal, Less, AtMost, Not, Implies, Forall, ℤ, ints, arith}
 
 -- ---- options and lists of patterns
 

@@ -25,7 +25,8 @@ pub use Rattle.enf_data.specs.meaning.Valuations.{Valuation, no_values, onto_val
 pub use Rattle.enf_formula.proofs.VariableLaws.{new_apart}
 pub use Rattle.enf_formula.specs.machine.Cases.{event_q_of, name_p, name_q, variable_x}
 pub use Rattle.enf_formula.specs.machine.FormulaShape.{BindsFresh}
-pub use Rattle.enf_formula.specs.meaning.Satisfaction.{And, AreNumbersInOrder, AreSameValues, AtMost, Atom, Equal, Exists, False, Forall, Formula, Implies, IsEventAmong, IsFree, Less, Not, Or, Sat, True, elapsed}
+pub use Rattle.enf_formula.specs.meaning.Satisfaction.{And, AreNumbersInOrder, AreSameValues, AtMost, Atom, Equal, Exists, False, Forall, Formula, Implies, IsEventAmong, IsFree, Less, Not, Or, Sat}
+pub use Rattle.enf_formula.specs.meaning.Satisfaction.{True, elapsed}
 pub use Rattle.plan_terms.specs.meaning.Plans.{AlwaysPlan, Both, CausePlan, Either, EventuallyPlan, Guarded, NextPlan, Plan, SuppressPlan, TestOr, UntilPlan, formula_for, interval_from_to}
 pub use Rattle.plan_terms.specs.machine.WellFormed.{AtEach, GuardBindsFresh}
 pub use Rattle.sleepers.specs.declared.patterns.Pattern.{Pattern}

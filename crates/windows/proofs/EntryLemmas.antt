@@ -1,11 +1,10 @@
 -- Rows with their times.
 use Rattle.windows.proofs.Vocabulary.{◌≡◌, ◌∙◌, ◌↔◌, ◌⊎◌, inl, inr, ⊎_elim, ℕ, zero, suc, ◌+◌, ◌-◌, ◌<◌, ◌≤◌, Bool, true, false, List, [], ◌∷◌, ◌++◌, length, map, take, drop, get_or, All, Contains}
 use Rattle.windows.proofs.Vocabulary.{Option, None, Some, refl, sym, ap, subst, arith, false≢true, All-contains, All-nil, All-push, Contains-append_cases, Contains-append_left, Contains-append_right}
-use Rattle.windows.proofs.Vocabulary.{Contains-get_or, Contains-push, same_Some, none-some, position, slice_get, IfSome, cond, IsDistinct, RetainsPairs, take_more}
-use Rattle.windows.proofs.Vocabulary.{position-Some, keys_of, lookup, values_of, set_value_at, get_by, insert_entry}
-use Rattle.windows.proofs.Vocabulary.{insert_entry-new, HashMap, HasNoRepeats-from_distinct, here, later, first_or_later, none_in_nil, derived_row_eq-Decides, HasNoRepeats, Interval, Value, all_from}
-use Rattle.windows.proofs.Vocabulary.{AddAtMost, AddsAtMost, AddsTime, AddsTimes, AreWindowEntries, AreLeast, Forgets, ForgetsTimes, GivesRow, GivesSomeRow, HasTime, IsAnyRow, IsSettledRow, IsSomeIn}
-use Rattle.windows.proofs.Vocabulary.{KeepsRows, IsEndedTime, AreLeastTimes, IsServedTime, RiseTo, Contains-from_map, Contains-map}
+use Rattle.windows.proofs.Vocabulary.{Contains-get_or, Contains-push, same_Some, none-some, position, slice_get, IfSome, cond, IsDistinct, RetainsPairs, take_more, position-Some, keys_of, lookup}
+use Rattle.windows.proofs.Vocabulary.{values_of, set_value_at, get_by, insert_entry, insert_entry-new, HashMap, HasNoRepeats-from_distinct, here, later, first_or_later, none_in_nil}
+use Rattle.windows.proofs.Vocabulary.{derived_row_eq-Decides, HasNoRepeats, Interval, Value, all_from, AddAtMost, AddsAtMost, AddsTime, AddsTimes, AreWindowEntries, AreLeast, Forgets, ForgetsTimes}
+use Rattle.windows.proofs.Vocabulary.{GivesRow, GivesSomeRow, HasTime, IsAnyRow, IsSettledRow, IsSomeIn, KeepsRows, IsEndedTime, AreLeastTimes, IsServedTime, RiseTo, Contains-from_map, Contains-map}
 use Rattle.windows.proofs.Vocabulary.{All-weaker}
 use Rattle.std.specs.Prelude.{is_some, IsTrue}
 use Rattle.windows.proofs.LeastLemmas.{one_entry}

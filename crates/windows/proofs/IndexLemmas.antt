@@ -1,10 +1,9 @@
 -- Buckets of places.
 use Rattle.windows.proofs.Vocabulary.{◌≡◌, ◌∙◌, ◌⊎◌, inl, inr, ⊎_elim, ℕ, zero, suc, Bool, true, false, List, [], ◌∷◌, ◌++◌, length, map, take, Contains, Option, None, Some, refl, sym, ap, subst}
-use Rattle.windows.proofs.Vocabulary.{arith, none_in_nil, later, get_or, ◌<◌, ◌+◌, same_Some, none-some, position, slice_get, cond, keys_of, lookup, values_of, set_value_at, option_map_or}
-use Rattle.windows.proofs.Vocabulary.{VarId, Value, cells, cells_eq, cells_eq-Decides, row_cell, value_at, cell_some, here, first_or_later, Contains-append_cases, HashMap, insert_entry}
-use Rattle.windows.proofs.Vocabulary.{append-nil, append_assoc, length-append, Contains-append_right as there_right, ◌↔◌, Contains-append_left}
-use Rattle.windows.proofs.Vocabulary.{Contains-push, GivesRow, Interval, IsSomeIn, there_from_get, IsTrue, ◌&&◌, false≢true, is_some, value_eq-Decides, All, All-contains}
-use Rattle.windows.proofs.Vocabulary.{are_cells_as_bound, is_cell_as_bound, only_item, Valuation}
+use Rattle.windows.proofs.Vocabulary.{arith, none_in_nil, later, get_or, ◌<◌, ◌+◌, same_Some, none-some, position, slice_get, cond, keys_of, lookup, values_of, set_value_at, option_map_or, VarId}
+use Rattle.windows.proofs.Vocabulary.{Value, cells, cells_eq, cells_eq-Decides, row_cell, value_at, cell_some, here, first_or_later, Contains-append_cases, HashMap, insert_entry, append-nil}
+use Rattle.windows.proofs.Vocabulary.{append_assoc, length-append, Contains-append_right as there_right, ◌↔◌, Contains-append_left, Contains-push, GivesRow, Interval, IsSomeIn, there_from_get, IsTrue}
+use Rattle.windows.proofs.Vocabulary.{◌&&◌, false≢true, is_some, value_eq-Decides, All, All-contains, are_cells_as_bound, is_cell_as_bound, only_item, Valuation}
 use Rattle.std.specs.Option.{option_map}
 use Rattle.std.proofs.lemmas.Bool.{eq-eqb, eqb-true}
 use Rattle.enf_data.specs.meaning.Valuations.{no_values, BindsColumns, variable_cmp}

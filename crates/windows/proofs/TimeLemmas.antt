@@ -1,6 +1,6 @@
 -- The times of one row.
-use Rattle.windows.proofs.Vocabulary.{◌≡◌, ◌∙◌, ◌⊎◌, inl, inr, ⊎_elim, ℕ, zero, suc, ◌-◌, ◌<◌, ◌≤◌, List, [], ◌∷◌, ◌++◌, length, drop, leb, All, get_or, Contains, Option, None, Some, refl, sym}
-use Rattle.windows.proofs.Vocabulary.{ap, subst, arith, All-contains, All-nil, All-push, Contains-append_cases, Contains-append_left, Contains-push, Contains-get_or, cases_le, cases_lt, leb_tells}
+use Rattle.windows.proofs.Vocabulary.{◌≡◌, ◌∙◌, ◌⊎◌, inl, inr, ⊎_elim, ℕ, zero, suc, ◌-◌, ◌<◌, ◌≤◌, List, [], ◌∷◌, ◌++◌, length, drop, leb, All, get_or, Contains, Option, None, Some, refl, sym, ap}
+use Rattle.windows.proofs.Vocabulary.{subst, arith, All-contains, All-nil, All-push, Contains-append_cases, Contains-append_left, Contains-push, Contains-get_or, cases_le, cases_lt, leb_tells}
 use Rattle.windows.proofs.Vocabulary.{IsRisingBy, IsUpTo, slice_get, same_Some, none-some, Interval, here, later, first_or_later, none_in_nil, there_from_get, IsIn, all_from, AddsAtMost, AddsTime}
 use Rattle.windows.proofs.Vocabulary.{ForgetsTimes, IsSomeIn, IsEndedTime, AreLeastTimes, IsServedTime, RiseTo, false, false≢true}
 use Rattle.windows.proofs.KeptLaws.{rises_append}

@@ -25,7 +25,7 @@ pub record RemovesItem {X : Type 0} (x : X) (before : List X) (found : Bool) (af
 abbrev pub without_events : (events gone : List Event) → List Event
 without_events events gone = filter (λ event. not (has_event gone event)) events
 
--- items are taken out one after another, each where it is there
+-- items are taken out one after another, all of which are there
 abbrev pub TakesOutEach : {X : Type 0} → (before : List X) → List X → (after : List X) → Type 0
 TakesOutEach before [] after = after ≡ before
 TakesOutEach {X = X} before (x ∷ xs) after = (next : List X) × TakesOut x before next × TakesOutEach next xs after

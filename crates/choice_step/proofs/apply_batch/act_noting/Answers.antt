@@ -1,5 +1,5 @@
-use Rattle.choice_step.proofs.Vocabulary.{◌+◌, ◌++◌, [], ◌∷◌, Contains, drop, sym, subst, ap, ◌∙◌, append-nil, append_assoc, true≢false, here, later, drop_at_item, ChangesEvents}
-use Rattle.choice_step.proofs.Vocabulary.{Applies, TakesOut, WillBeLeft, without_events}
+use Rattle.choice_step.proofs.Vocabulary.{◌+◌, ◌++◌, [], ◌∷◌, Contains, drop, sym, subst, ap, ◌∙◌, append-nil, append_assoc, true≢false, here, later, drop_at_item, ChangesEvents, Applies, TakesOut}
+use Rattle.choice_step.proofs.Vocabulary.{WillBeLeft, without_events}
 use Rattle.enf_data.proofs.Lists.{HasNoRepeats-filter}
 use Rattle.enf_data.proofs.RemovalLemmas.{left_is, none_gone, one_out}
 use Rattle.enf_data.specs.meaning.Values.{has_event}

@@ -1,5 +1,6 @@
-use Rattle.choice_step.proofs.Vocabulary.{[], None, ◌≡◌, ◌∙◌, ap, step_moment, refl, sym, subst, map, append-nil, placed_guard, AllButThose, AllByRecursion, Contains, CoversMet, SleepsNow, listed_instances, trace_with_step, shown, IfNone, IfSome, HaveSameEvents, guard_names, rule_found}
-use Rattle.choice_step.proofs.Vocabulary.{situation_plans, SituationFinds, IsFoundInSituation, IsMetBefore, NoneIsWoken}
+use Rattle.choice_step.proofs.Vocabulary.{[], None, ◌≡◌, ◌∙◌, ap, step_moment, refl, sym, subst, map, append-nil, placed_guard, AllButThose, AllByRecursion, Contains, CoversMet, SleepsNow}
+use Rattle.choice_step.proofs.Vocabulary.{listed_instances, trace_with_step, shown, IfNone, IfSome, HaveSameEvents, guard_names, rule_found, situation_plans, SituationFinds, IsFoundInSituation}
+use Rattle.choice_step.proofs.Vocabulary.{IsMetBefore, NoneIsWoken}
 use Rattle.std.specs.Prelude.{IsTrue}
 use Rattle.choice_step.proofs.FirstActionLemmas.{Met}
 use Rattle.choice_step.proofs.RoundLemmas.{covers_sleep, woken_among}

@@ -1,5 +1,4 @@
-use Rattle.monitorable_guard.proofs.Vocabulary.{◌∙◌, List, [], sym, subst, refl, take_all, Bor, Event, Value, Valuation, Contains, Contains-map, Contains-from_map, IsMatchOf}
-use Rattle.monitorable_guard.proofs.Vocabulary.{bound_in, false≢true}
+use Rattle.monitorable_guard.proofs.Vocabulary.{◌∙◌, List, [], sym, subst, refl, take_all, Bor, Event, Value, Valuation, Contains, Contains-map, Contains-from_map, IsMatchOf, bound_in, false≢true}
 use Rattle.monitorable_guard.proofs.CycleLemmas.{each_more}
 use Rattle.monitorable_guard.proofs.atoms.has_match.Goals as goal
 

@@ -1,5 +1,5 @@
-use Rattle.monitorable_guard.proofs.Vocabulary.{rules, ap, sym, ◌∙◌, subst, Contains, map, Some, length, take, drop, ◌-◌, List, Option, IsPartitionedBy, is_lt}
-use Rattle.monitorable_guard.proofs.Vocabulary.{is_le, take_rest, IsPartitionPoint-from_clause, same_name, below_first, up_to_last, Contains-map, Contains-from_map, shown_events, Value, value_of_term}
+use Rattle.monitorable_guard.proofs.Vocabulary.{rules, ap, sym, ◌∙◌, subst, Contains, map, Some, length, take, drop, ◌-◌, List, Option, IsPartitionedBy, is_lt, is_le, take_rest}
+use Rattle.monitorable_guard.proofs.Vocabulary.{IsPartitionPoint-from_clause, same_name, below_first, up_to_last, Contains-map, Contains-from_map, shown_events, Value, value_of_term}
 use Rattle.monitorable_guard.proofs.EventLemmas.{search_cmp, search_cmp_total, search_cmp_exact, beginning_key, by_beginning, tied_events}
 use Rattle.std.proofs.Common.{ℕ}
 use Rattle.monitorable_guard.proofs.events.beginning_with.Goals as goal

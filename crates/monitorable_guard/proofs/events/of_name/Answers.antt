@@ -1,6 +1,5 @@
-use Rattle.monitorable_guard.proofs.Vocabulary.{rules, ap, sym, ◌∙◌, subst, Contains, length, take, drop, ◌-◌, nat_cmp_total, nat_cmp-IsAntisymmetric}
-use Rattle.monitorable_guard.proofs.Vocabulary.{IsPartitionedBy, is_lt, is_le, nat_cmp, take_rest, IsPartitionPoint-from_clause, same_name, below_first, up_to_last, Contains-map, Contains-from_map}
-use Rattle.monitorable_guard.proofs.Vocabulary.{name_of, shown_events}
+use Rattle.monitorable_guard.proofs.Vocabulary.{rules, ap, sym, ◌∙◌, subst, Contains, length, take, drop, ◌-◌, nat_cmp_total, nat_cmp-IsAntisymmetric, IsPartitionedBy, is_lt, is_le, nat_cmp}
+use Rattle.monitorable_guard.proofs.Vocabulary.{take_rest, IsPartitionPoint-from_clause, same_name, below_first, up_to_last, Contains-map, Contains-from_map, name_of, shown_events}
 use Rattle.monitorable_guard.proofs.EventLemmas.{tied_events}
 use Rattle.monitorable_guard.proofs.events.of_name.Goals as goal
 

@@ -1,8 +1,7 @@
-use Rattle.monitorable_guard.proofs.Vocabulary.{◌≡◌, ◌+◌, ◌<◌, ◌↔◌, List, Option, None, Contains, length, sym, ap, subst, ◌∙◌, arith, rules, length-map, IfOk-weaker, VarId, tree_of}
-use Rattle.monitorable_guard.proofs.Vocabulary.{outermost, ◌^◌, ◌-◌, length-take-le, Formula, BoundOrFreeIn, formula_size, Not, And, Or, Implies, Exists, Forall, Safe, SafeBelow, ℕ, [], ◌∷◌}
-use Rattle.monitorable_guard.proofs.Vocabulary.{◌++◌, get_or, take, here, Contains-append_left, Contains-append_right}
-use Rattle.monitorable_guard.proofs.OrderedLemmas.{room_left, room_right, conjuncts_room, conjuncts_large, some_by_size, last_parts, last_safe, conjunction_safe, ok_same, ok_so}
-use Rattle.monitorable_guard.proofs.OrderedLemmas.{size_some, last_size}
+use Rattle.monitorable_guard.proofs.Vocabulary.{◌≡◌, ◌+◌, ◌<◌, ◌↔◌, List, Option, None, Contains, length, sym, ap, subst, ◌∙◌, arith, rules, length-map, IfOk-weaker, VarId, tree_of, outermost, ◌^◌}
+use Rattle.monitorable_guard.proofs.Vocabulary.{◌-◌, length-take-le, Formula, BoundOrFreeIn, formula_size, Not, And, Or, Implies, Exists, Forall, Safe, SafeBelow, ℕ, [], ◌∷◌, ◌++◌, get_or, take, here}
+use Rattle.monitorable_guard.proofs.Vocabulary.{Contains-append_left, Contains-append_right}
+use Rattle.monitorable_guard.proofs.OrderedLemmas.{room_left, room_right, conjuncts_room, conjuncts_large, some_by_size, last_parts, last_safe, conjunction_safe, ok_same, ok_so, size_some, last_size}
 use Rattle.monitorable_guard.proofs.OrderedSafety.{not_part, exists_part, forall_part, and_whole, and_below, or_parts, implies_parts, not_again, exists_again, forall_again, or_again, implies_again}
 use Rattle.monitorable_guard.proofs.ReorderingLemmas.{as_given, and_reordered}
 use Rattle.monitorable_guard.proofs.ReorderingParts.{whole_reordered, or_reordered, implies_reordered, not_reordered, exists_reordered, forall_reordered}

@@ -1,5 +1,5 @@
-use Rattle.wake_patterns.proofs.Vocabulary.{[], ◌∷◌, Some, ap, get-empty, no_values, value_at-insert, variable_cmp, variable_x, value_one, value_two, of_known, of_numbers, int_lt, if_known, true, false}
-use Rattle.wake_patterns.proofs.Vocabulary.{Bool, Option, List, Value, Pattern, patterns_of_both, narrower, patterns_of_one, name_p, name_q}
+use Rattle.wake_patterns.proofs.Vocabulary.{[], ◌∷◌, Some, ap, get-empty, no_values, value_at-insert, variable_cmp, variable_x, value_one, value_two, of_known, of_numbers, int_lt, if_known, true}
+use Rattle.wake_patterns.proofs.Vocabulary.{false, Bool, Option, List, Value, Pattern, patterns_of_both, narrower, patterns_of_one, name_p, name_q}
 use Rattle.wake_patterns.proofs.worked_cases.constants.Goals as goal
 
 -- what is waited for where the value of x is this

@@ -1,5 +1,4 @@
-use Rattle.windows.proofs.Vocabulary.{◌∙◌, ◌<◌, length, take, get_or, ap, subst, Contains, AddsTimes, AreWindowEntries, table_row-length}
-use Rattle.windows.proofs.Vocabulary.{IfSome}
+use Rattle.windows.proofs.Vocabulary.{◌∙◌, ◌<◌, length, take, get_or, ap, subst, Contains, AddsTimes, AreWindowEntries, table_row-length, IfSome}
 use Rattle.windows.specs.machine.RowIndexes.{IsIndexOf}
 use Rattle.windows.specs.machine.WindowEntries.{rows_of}
 use Rattle.windows.proofs.EntryLemmas.{adds_then, at_most_then, item_there, next_of}

@@ -1,5 +1,4 @@
-use Rattle.choice_step.proofs.Vocabulary.{◌≡◌, ◌∙◌, ◌+◌, IfSome, length, map, sym, subst, ap, arith, same_Some, length-append, slice_get, [], ◌∷◌, plan_of, plan_at, CanBatch}
-use Rattle.choice_step.proofs.Vocabulary.{KeepsRest, AreBatches}
+use Rattle.choice_step.proofs.Vocabulary.{◌≡◌, ◌∙◌, ◌+◌, IfSome, length, map, sym, subst, ap, arith, same_Some, length-append, slice_get, [], ◌∷◌, plan_of, plan_at, CanBatch, KeepsRest, AreBatches}
 use Rattle.choice_step.proofs.BatchLemmas.{batches_more, none_made}
 use Rattle.choice_step.proofs.batches.Batches.of.Goals as goal
 

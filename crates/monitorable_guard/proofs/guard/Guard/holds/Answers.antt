@@ -1,5 +1,4 @@
-use Rattle.monitorable_guard.proofs.Vocabulary.{Contains, sym, subst, ◌∙◌, tree_of, bound_in, valuation_part, IsPartOfValuation, part_is}
-use Rattle.monitorable_guard.proofs.Vocabulary.{AreOpen, Safe, IsBoundBy}
+use Rattle.monitorable_guard.proofs.Vocabulary.{Contains, sym, subst, ◌∙◌, tree_of, bound_in, valuation_part, IsPartOfValuation, part_is, AreOpen, Safe, IsBoundBy}
 use Rattle.monitorable_guard.specs.machine.Guards.{BoundFormula}
 use Rattle.monitorable_guard.specs.machine.Reordering.{IsReordered, only_formula}
 use Rattle.monitorable_guard.proofs.AskedGuards.{numbers_within, asked_can, asked_within, ok_given_holds}

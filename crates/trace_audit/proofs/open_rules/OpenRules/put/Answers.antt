@@ -1,5 +1,5 @@
-use Rattle.trace_audit.proofs.Vocabulary.{◌∙◌, List, None, Some, set, sym, subst, refl, on_err_from, slice_get_within, arith, Entry, IsFreePlace, Place, AreForSlots, ℕ}
-use Rattle.trace_audit.proofs.Vocabulary.{HasOneMoreRule, open_in, OpenRule}
+use Rattle.trace_audit.proofs.Vocabulary.{◌∙◌, List, None, Some, set, sym, subst, refl, on_err_from, slice_get_within, arith, Entry, IsFreePlace, Place, AreForSlots, ℕ, HasOneMoreRule, open_in}
+use Rattle.trace_audit.proofs.Vocabulary.{OpenRule}
 use Rattle.trace_audit.proofs.SlotLemmas.{free_place, put_for_slots, put_rule, same_open, still_for_slots}
 use Rattle.trace_audit.proofs.open_rules.OpenRules.put.Goals as goal
 

@@ -1,6 +1,5 @@
 use Rattle.windows.proofs.Vocabulary.{◌≡◌, ◌∙◌, ◌↔◌, ◌⊎◌, [], IsTrue, List, All, Contains, length, sym, ap, subst, IsIn, Valuation, Value, ok_both, AgreesWhereBound, HasValuation, GivesRow}
-use Rattle.windows.proofs.Vocabulary.{are_cells_as_bound, cells, SurvivesUnder, AnswersBy, FitsColumns, SurvivesFor}
-use Rattle.windows.proofs.Vocabulary.{IfSome}
+use Rattle.windows.proofs.Vocabulary.{are_cells_as_bound, cells, SurvivesUnder, AnswersBy, FitsColumns, SurvivesFor, IfSome}
 use Rattle.windows.specs.machine.RowIndexes.{IsIndexOf}
 use Rattle.windows.specs.machine.WindowEntries.{rows_of}
 use Rattle.windows.proofs.BoundAnswerLemmas.{answer_under, long_under}
