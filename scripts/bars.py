@@ -318,9 +318,10 @@ def rules(*formulas):
     return ''.join('rule r%d: %s;\n' % (place, formula) for place, formula in enumerate(formulas))
 
 
-def duty(name, formula, begins, steps, apart=1, at=late):
-    """A row of open duties, begun by such events in records so many units apart."""
-    return Row(name, rules(formula), beside(in_records(begins, apart), {'ping': PING, **steps}, at), n=10000)
+def duty(name, formula, begins, steps, apart=1, at=late, behind=()):
+    """A row of open duties, begun by such events in records so many units apart, with more lines behind these."""
+    return Row(name, rules(formula), beside(lambda n: in_records(begins, apart)(n) + list(behind), {'ping': PING, **steps}, at),
+               n=10000)
 
 
 CONSENT = 'forall u. use(u) -> once[0,*] consent(u)'
@@ -378,8 +379,9 @@ WOKEN = [
         growth(requests_then_uses, changes=lambda n: n)),
     Row('twelve-uses', TWELVE, growth(in_one_record('use(U,"mail")'), changes=lambda n: n), signature=PERSONAL),
     duty('ends-now-eventually', ERASE, 'request(U)', {'deleted': ('delete(U)', 0)}, 0, lambda n, step: 31),
+    # The record at 2 is the first that finds the windows begun, which each costs something once.
     duty('ends-now-always', 'forall u. request(u) -> always[1,30] not use(u)', 'request(U)', {'used': ('use(U)', 1)}, 0,
-         lambda n, step: 31),
+         lambda n, step: 31, ['@2 ping();\n']),
     duty('always', 'forall u. request(u) -> always[0,1000000] not use(u)', 'request(U)', {'used': ('use(U)', 1)}),
     duty('constant-goal', 'forall n. breach(n) -> eventually[0,1000000] (n < 100 or report(n))', 'breach(N)',
          {'reported': ('report(N)', 0)}),

@@ -146,8 +146,8 @@ fn becoming_waiting<'a>(
     }
 }
 
-// Puts the instances last that the plan begins. Of a plan that does not look ahead, or whose guard begins with an atom
-// that has no event, no rows are asked.
+// Puts the instances last that the plan begins. Of a plan that does not look ahead, or whose guard needs an event that the
+// step does not have, no rows are asked.
 pub fn begin_ahead<'a>(
     alloc: Global,
     rule: u32,
