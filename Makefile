@@ -1,6 +1,6 @@
 # enf: a first run, files of one's own, the proved program, the tests.
 
-.PHONY: help demo try build install recipes bench bars check trusted test fmt clean
+.PHONY: help demo try build install recipes bench bars environment check trusted test fmt clean
 
 help:
 	@echo 'make demo                            enforces the logs of examples/, shows what was changed, and checks two policies'
@@ -10,6 +10,7 @@ help:
 	@echo 'make recipes                         runs what the documents show, and stops and resumes the examples, by the proved program'
 	@echo 'make bench                           measures the proved program on generated logs, and the bars'
 	@echo 'make bars                            measures what must not grow with what is remembered or pending'
+	@echo 'make environment                     runs the proved program where what is around it fails'
 	@echo 'make check                           proves every crate, over what earlier checks kept; from nothing it takes hours'
 	@echo 'make trusted                         prints what must be believed of the theorem, and fails where it is too much'
 	@echo 'make test                            proves and tests everything (rt ci); from nothing it takes hours'
@@ -37,6 +38,9 @@ bench:
 
 bars:
 	@./scripts/bars.py
+
+environment:
+	@./scripts/environment.py
 
 check:
 	rt all check
