@@ -1,15 +1,15 @@
 #!/usr/bin/env python3
 """trusted.py ROOT: prints the shelf, which is the file that holds the words of the clause `headline` of `run` and all files
-that it imports, in reading order; then what `outcome` and `due` take beside; the totals; and the names of what is no file:
-modules that the kit makes of Rust types, and those of its std. Fails where a file is not of specs/meaning, or where there is
-more than may be."""
+that it imports, in reading order; then what `outcome`, `due` and `handed_on` take beside; the totals; and the names of what
+is no file: modules that the kit makes of Rust types, and those of its std. Fails where a file is not of specs/meaning, or
+where there is more than may be."""
 import heapq
 import os
 import re
 import sys
 
 RUN = 'crates/enf_run/src/run.rt'
-# What the shelf may have; for all three clauses the aim is 7,000 lines.
+# What the shelf may have; for all four clauses the aim is 7,000 lines.
 MOST_FILES = 75
 MOST_LINES = 4000
 MOST_LINES_OF_ALL = 7000
@@ -123,7 +123,7 @@ def main():
     root = sys.argv[1] if len(sys.argv) > 1 else os.path.join(os.path.dirname(os.path.abspath(__file__)), '..')
     shelf = Shelf(root)
     run = read(root, RUN)
-    clauses = [words_of(run, clause) for clause in ('headline', 'outcome', 'due')]
+    clauses = [words_of(run, clause) for clause in ('headline', 'outcome', 'due', 'handed_on')]
     starts = [shelf.file_of(words[0][1]) for words in clauses]
     for start in starts:
         shelf.add(start)
@@ -131,10 +131,10 @@ def main():
     every = shelf.above(starts)
     print('What must be believed of the clause headline, lowest first:')
     shelf.show(shelf.in_order(headline))
-    print('\nWhat the clauses outcome and due take beside:')
+    print('\nWhat the clauses outcome, due and handed_on take beside:')
     shelf.show([path for path in shelf.in_order(every) if path not in headline])
     print('\nheadline: %d files of %d, %d lines of %d' % (len(headline), MOST_FILES, shelf.lines(headline), MOST_LINES))
-    print('all three: %d files, %d lines of %d' % (len(every), shelf.lines(every), MOST_LINES_OF_ALL))
+    print('all four: %d files, %d lines of %d' % (len(every), shelf.lines(every), MOST_LINES_OF_ALL))
     others = {}
     for path in every:
         for module in shelf.others[path]:
@@ -146,7 +146,7 @@ def main():
     more = {(module, word) for words in clauses for word, module in words
             if shelf.file_of(module) and shelf.file_of(module) not in every}
     if more:
-        print('\nWords of the three clauses that stand in none of these files:')
+        print('\nWords of the four clauses that stand in none of these files:')
         for module, word in sorted(more):
             print('  %s of %s' % (word, module))
     faults = ['%s is not of specs/meaning' % path for path in shelf.in_order(every)
@@ -154,7 +154,7 @@ def main():
     if len(headline) > MOST_FILES or shelf.lines(headline) > MOST_LINES:
         faults.append('the shelf of headline has more than %d files or %d lines' % (MOST_FILES, MOST_LINES))
     if shelf.lines(every) > MOST_LINES_OF_ALL:
-        faults.append('the shelf of all three clauses has more than %d lines' % MOST_LINES_OF_ALL)
+        faults.append('the shelf of all four clauses has more than %d lines' % MOST_LINES_OF_ALL)
     print('')
     for fault in faults:
         print('trusted: ' + fault)

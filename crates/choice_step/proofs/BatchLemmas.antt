@@ -1,40 +1,19 @@
 -- What is left of the literals of a root whose events are taken out at once.
-use Rattle.choice_step.proofs.Vocabulary.{◌≡◌, ◌∙◌, ◌<◌, ℕ, zero, suc, Bool, List, [], ◌∷◌, ◌++◌, Option, None, Some, Contains, ◌⊎◌, inl, inr, length, map, refl, sym, subst, ap, ⊎_elim, slice_get}
-use Rattle.choice_step.proofs.Vocabulary.{none-some, same_Some, AllByRecursion, AllByRecursion-contains, HasNoRepeats, TakesOut, from_flat_map, Event, NameId, Past, placed_guard, nodes, Plan}
-use Rattle.choice_step.proofs.Vocabulary.{CausePlan, SuppressPlan, Both, Either, TestOr, Guarded, EventuallyPlan, AlwaysPlan, UntilPlan, NextPlan, flat_map, IsLeaf, ChangesEvents}
-use Rattle.choice_step.proofs.Vocabulary.{FallingInstanceStaysMet, FallingStaysMet, OwnLeavesRest, UnreadLeavesRest, IsFalling, IsFallingIn, KeepsRest, AreBatches, CanBatchAt, IfSome, Action}
-use Rattle.choice_step.proofs.Vocabulary.{Instance, Literal, LiteralKind, AllCanBeAsked, Applies, HasNoChoices, AreLiteralsBehind, IsFoundFrom, WillBeLeft}
-use Rattle.choice_step.proofs.LoopActionLemmas.{falling_stays, first_left, left_on}
+use Rattle.choice_step.proofs.Vocabulary.{◌≡◌, ◌∙◌, ◌<◌, ℕ, zero, suc, Bool, List, [], ◌∷◌, ◌++◌, Option, None, Some, ◌⊎◌, inl, inr, length, map, refl, sym, subst, ap, ⊎_elim, slice_get, none-some}
+use Rattle.choice_step.proofs.Vocabulary.{same_Some, AllByRecursion, HasNoRepeats, TakesOut, Event, NameId, Past, placed_guard, Plan, ChangesEvents, UnreadInstanceStaysMet, UnreadLeavesRest}
+use Rattle.choice_step.proofs.Vocabulary.{UnreadStaysMet, IsUnmovedIn, LeavesRestIn, AreBatches, CanBatchAt, IfSome, Action, Instance, Literal, AllCanBeAsked, Applies, HasNoChoices, AreLiteralsBehind}
+use Rattle.choice_step.proofs.Vocabulary.{IsFoundFrom, WillBeLeft}
+use Rattle.choice_step.proofs.LoopActionLemmas.{first_left, leaf_apart, left_on, moved_stays, unmoved_leaf}
 use Rattle.obligations.specs.declared.literals.LiteralKind.TheVariants as kind
 
--- no leaf that is falling in a name wants its events to be caused
-leaf_falls : (name : NameId) (leaf : Plan) (k : LiteralKind) (number : ℕ) (event : Event) → IsFalling name leaf → IsLeaf leaf k number event
-    → (k ≡ kind.Suppress → ⊥) → event.name ≡ name → ⊥
-leaf_falls name (CausePlan node place own terms) k number event falls is not same = falls (sym is.2 ∙ same)
-leaf_falls name (SuppressPlan node place own terms) k number event falls is not same = not is.0
-leaf_falls name (Both node left right) k number event falls is not same = absurd is
-leaf_falls name (Either node left right) k number event falls is not same = absurd is
-leaf_falls name (TestOr node guard test body) k number event falls is not same = absurd is
-leaf_falls name (Guarded node xs guard test body) k number event falls is not same = absurd is
-leaf_falls name (EventuallyPlan node place low high body) k number event falls is not same = absurd is
-leaf_falls name (AlwaysPlan node place low high body) k number event falls is not same = absurd is
-leaf_falls name (UntilPlan node place low high left right) k number event falls is not same = absurd is
-leaf_falls name (NextPlan node place high body) k number event falls is not same = absurd is
-
-falling_leaf : (name : NameId) (plans : List Plan) (leaf : Plan) → AllByRecursion (IsFallingIn name) plans → Contains (flat_map nodes plans) leaf
-    → IsFalling name leaf
-falling_leaf name plans leaf falling there =
-    let found = from_flat_map nodes plans leaf there in
-    AllByRecursion-contains (IsFalling name) (nodes found.0) leaf (AllByRecursion-contains (IsFallingIn name) plans found.0 falling found.1) found.2
-
-module _ (met : FallingStaysMet) (instances_met : FallingInstanceStaysMet) (own : OwnLeavesRest) (unread : UnreadLeavesRest)
+module _ (met : UnreadStaysMet) (instances_met : UnreadInstanceStaysMet) (rest : UnreadLeavesRest)
     (plans : List Plan) (pending : List Instance) (past : Past) (inserted : Bool) (time position rule : ℕ) (name : NameId)
     (batch : CanBatchAt plans rule name) (can : AllCanBeAsked plans pending past) where
-  falling_at : (event : Event) → event.name ≡ name → AllByRecursion (IsFallingIn event.name) plans
-  falling_at event named = subst (λ n. AllByRecursion (IsFallingIn n) plans) (sym named) batch.falling
+  unmoved_at : (event : Event) → event.name ≡ name → AllByRecursion (IsUnmovedIn kind.Suppress event.name) plans
+  unmoved_at event named = subst (λ n. AllByRecursion (IsUnmovedIn kind.Suppress n) plans) (sym named) batch.unmoved
 
-  keeps_at : (event : Event) → event.name ≡ name → (plan : Plan) → slice_get plans rule ≡ Some plan → KeepsRest event.name plan
-  keeps_at event named plan there = subst (λ n. KeepsRest n plan) (sym named) (batch.keeps plan there)
+  leaves_at : (event : Event) → event.name ≡ name → (plan : Plan) → slice_get plans rule ≡ Some plan → LeavesRestIn kind.Suppress event.name plan
+  leaves_at event named plan there = subst (λ n. LeavesRestIn kind.Suppress n plan) (sym named) (batch.leaves plan there)
 
   -- after the first action what is left of all of them
   pub batch_first : (given events after : List Event) (action : Action) (literals : List Literal) → 0 < length literals
@@ -43,8 +22,8 @@ module _ (met : FallingStaysMet) (instances_met : FallingInstanceStaysMet) (own 
       → WillBeLeft plans pending past inserted time position after rule literals
   batch_first given events after action literals some taken named goes found =
       first_left plans pending past inserted time position can given events after rule action literals some
-      (λ trace. falling_stays met instances_met own unread plans (map placed_guard past.guards) action.event events after trace time rule taken
-      (falling_at action.event named) (keeps_at action.event named)) goes found
+      (λ trace. moved_stays met instances_met rest plans (map placed_guard past.guards) kind.Suppress action.event events after trace time rule taken
+      (unmoved_at action.event named) (leaves_at action.event named)) goes found
 
   -- and after each of the others the rest
   pub batch_rest : (given events after : List Event) (literal : Literal) (literals : List Literal) → HasNoRepeats events
@@ -56,10 +35,10 @@ module _ (met : FallingStaysMet) (instances_met : FallingInstanceStaysMet) (own 
       left_on plans pending past inserted time position can events after rule literal literals distinct
       (subst (λ k. Applies k literal.event events after) (sym suppress) taken)
       (λ other there not same. let leaf = are other there in
-      leaf_falls name leaf.leaf other.kind other.leaf other.event (falling_leaf name plans leaf.leaf batch.falling leaf.there) leaf.is
-      (λ is. not (suppress ∙ sym is)) (same ∙ named))
-      (λ trace. falling_stays met instances_met own unread plans (map placed_guard past.guards) literal.event events after trace time rule taken
-      (falling_at literal.event named) (keeps_at literal.event named))
+      leaf_apart kind.Suppress other.kind name leaf.leaf other.leaf other.event (unmoved_leaf kind.Suppress name plans leaf.leaf batch.unmoved leaf.there) leaf.is
+      (λ is. not (suppress ∙ is)) (same ∙ named))
+      (λ trace. moved_stays met instances_met rest plans (map placed_guard past.guards) kind.Suppress literal.event events after trace time rule taken
+      (unmoved_at literal.event named) (leaves_at literal.event named))
       changes left
 
 -- ---- which names are made

@@ -5,11 +5,11 @@ use Rattle.choice_step.proofs.Vocabulary.{arith, append-nil, append_assoc, lengt
 use Rattle.choice_step.proofs.Vocabulary.{Contains-push_cases, none-some, same_Some, no_step, step_at, AllByRecursion-append, AllByRecursion-contains, Contains-append, first_or_later, here, later}
 use Rattle.choice_step.proofs.Vocabulary.{HasNoRepeats-middle, HasNoRepeats, no_values, Event, NameId, Step, VarId, Contains-insert, Formula, HaveSameEvents, Past, guard_names, NothingClashes, nodes}
 use Rattle.choice_step.proofs.Vocabulary.{Plan, CausePlan, SuppressPlan, Both, Either, TestOr, Guarded, EventuallyPlan, AlwaysPlan, UntilPlan, NextPlan, ChangesEvents, IsLeaf, placed_guard, time_now}
-use Rattle.choice_step.proofs.Vocabulary.{Missing, last_position, MissingOf, AreThoseWith, DiffersIn, HaveMore, IsStillWanted, IsUnread, IsUnreadIn, IsPlain, UnreadInstanceStaysMet, UnreadLeavesRest}
-use Rattle.choice_step.proofs.Vocabulary.{UnreadStaysMet, CanAskOf, CanAskRoots, Action, Instance, Literal, LiteralKind, AllCanBeAsked, GoesFrom, IsFoundFrom, ActsInTurn, AreSpared, AreSparedBehind}
-use Rattle.choice_step.proofs.Vocabulary.{HasNoChoices, Applies, MissesNothing, Root, Waiting, action_at, action_at_root, all_asked, is_forced, roots_from, trace_with_step, AreLiteralsBehind}
-use Rattle.choice_step.proofs.Vocabulary.{IsLiteralBehind, IsWantedFrom, IsActionFor, WillFind, IsLeftAt, WillBeLeft, WillBeMetBefore, Place, HasActionRole, IsCaused, GainsNoSuppressed, Valuation}
-use Rattle.choice_step.proofs.Vocabulary.{CanAskPlan, TakesOut, FallingInstanceStaysMet, FallingStaysMet, OwnLeavesRest, IsFallingIn, KeepsRest, AllByRecursion-weaker}
+use Rattle.choice_step.proofs.Vocabulary.{Missing, last_position, MissingOf, AreThoseWith, DiffersIn, HaveMoreOf, IsStillWanted, IsUnmoved, IsUnmovedIn, IsUnreadIn, LeavesRestIn, IsPlain}
+use Rattle.choice_step.proofs.Vocabulary.{UnreadInstanceStaysMet, UnreadLeavesRest, UnreadStaysMet, CanAskOf, CanAskRoots, Action, Instance, Literal, LiteralKind, AllCanBeAsked, GoesFrom, IsFoundFrom}
+use Rattle.choice_step.proofs.Vocabulary.{ActsInTurn, AreSpared, AreSparedBehind, HasNoChoices, Applies, MissesNothing, Root, Waiting, action_at, action_at_root, all_asked, is_forced, roots_from}
+use Rattle.choice_step.proofs.Vocabulary.{trace_with_step, AreLiteralsBehind, IsLiteralBehind, IsWantedFrom, IsActionFor, WillFind, IsLeftAt, WillBeLeft, WillBeMetBefore, Place, HasActionRole}
+use Rattle.choice_step.proofs.Vocabulary.{IsCaused, GainsNoSuppressed, Valuation, CanAskPlan, AllByRecursion-weaker, from_flat_map, node_unmoved, unread_rest, unread_unmoved}
 use Rattle.choice_step.proofs.ActionChainLemmas.{not_behind}
 use Rattle.choice_step.proofs.UniquenessLemmas.{last_step}
 use Rattle.choice_step.proofs.FirstActionLemmas.{Met, covers_again, waiting_met, found_behind, one_more_root, root_first}
@@ -26,10 +26,6 @@ at_each P same a b last [] zero = last
 at_each P same a b last [] (suc i) = same no_step
 at_each P same a b last (s ∷ trace) zero = same s
 at_each P same a b last (s ∷ trace) (suc i) = at_each P same a b last trace i
-
-more_itself : (k : LiteralKind) (events : List Event) → HaveMore k events events
-more_itself kind.Cause events = λ event there. there
-more_itself kind.Suppress events = λ event there. there
 
 others_stay : (k : LiteralKind) (event : Event) (events after : List Event) → Applies k event events after → (other : Event)
     → (other.name ≡ event.name → ⊥) → Contains events other ↔ Contains after other
@@ -52,11 +48,13 @@ others_stay kind.Suppress event events after taken other apart = (
   λ there. subst (λ l. Contains l other) (sym taken.was) (Contains-insert taken.front taken.back event other (subst (λ l. Contains l other) taken.is there)),
 )
 
-more_after : (k : LiteralKind) (event : Event) (events after : List Event) → Applies k event events after
-    → HaveMore k events after
-more_after kind.Cause event events after is = λ other there.
-    subst (λ l. Contains l other) (sym is) (Contains-append_left events (event ∷ []) other there)
-more_after kind.Suppress event events after taken = λ other there.
+more_after : (event : Event) (events after : List Event) → Applies kind.Cause event events after → (other : Event)
+    → Contains events other → Contains after other
+more_after event events after is other there = subst (λ l. Contains l other) (sym is) (Contains-append_left events (event ∷ []) other there)
+
+fewer_after : (event : Event) (events after : List Event) → Applies kind.Suppress event events after → (other : Event)
+    → Contains after other → Contains events other
+fewer_after event events after taken other there =
     subst (λ l. Contains l other) (sym taken.was) (Contains-insert taken.front taken.back event other (subst (λ l. Contains l other) taken.is there))
 
 -- of a name that is suppressed no event comes
@@ -68,20 +66,29 @@ gained_once plans nothing kind.Cause event events after caused is other named th
     (λ (same : event ≡ other). absurd (nothing other.name (subst (λ (e : Event). IsCaused plans e.name) same caused, named)))
     (Contains-push_cases events event other (subst (λ l. Contains l other) is there))
 gained_once plans nothing kind.Suppress event events after role taken other named there =
-    more_after kind.Suppress event events after taken other there
+    fewer_after event events after taken other there
 
-differs : (k : LiteralKind) (event : Event) (events after : List Event) (trace : List Step) (time : ℕ)
-    → Applies k event events after → DiffersIn k event.name (trace_with_step trace time events) (trace_with_step trace time after)
-differs k event events after trace time applies =
-    let a : Step = record { time = time; events = events } in
-    let b : Step = record { time = time; events = after } in
+have_more : (name : NameId) (trace : List Step) (time : ℕ) (fewer more : List Event)
+    → ((other : Event) → Contains fewer other → Contains more other)
+    → ((other : Event) → (other.name ≡ name → ⊥) → Contains more other → Contains fewer other)
+    → HaveMoreOf name (trace_with_step trace time fewer) (trace_with_step trace time more)
+have_more name trace time fewer more grows others =
+    let a : Step = record { time = time; events = fewer } in
+    let b : Step = record { time = time; events = more } in
     record {
       long = length-append trace (a ∷ []) ∙ sym (length-append trace (b ∷ []));
       times = at_each (λ s t. s.time ≡ t.time) (λ s. refl) a b refl trace;
-      others = at_each (λ s t. (other : Event) → (other.name ≡ event.name → ⊥) → Contains s.events other ↔ Contains t.events other)
-          (λ s other apart. (λ there. there, λ there. there)) a b (others_stay k event events after applies) trace;
-      more = at_each (λ s t. HaveMore k s.events t.events) (λ s. more_itself k s.events) a b (more_after k event events after applies) trace;
+      more = at_each (λ s t. (other : Event) → Contains s.events other → Contains t.events other) (λ s other there. there) a b grows trace;
+      others = at_each (λ s t. (other : Event) → (other.name ≡ name → ⊥) → Contains t.events other → Contains s.events other)
+          (λ s other apart there. there) a b others trace;
     }
+
+differs : (k : LiteralKind) (event : Event) (events after : List Event) (trace : List Step) (time : ℕ)
+    → Applies k event events after → DiffersIn k event.name (trace_with_step trace time events) (trace_with_step trace time after)
+differs kind.Cause event events after trace time is =
+    have_more event.name trace time events after (more_after event events after is) (λ other apart. (others_stay kind.Cause event events after is other apart).1)
+differs kind.Suppress event events after trace time taken =
+    have_more event.name trace time after events (fewer_after event events after taken) (λ other apart. (others_stay kind.Suppress event events after taken other apart).0)
 
 -- an event that was acted on is not to be acted on again
 gone : (k : LiteralKind) (event : Event) (events after : List Event) → HasNoRepeats events → Applies k event events after
@@ -101,7 +108,7 @@ gone kind.Suppress event events after distinct taken there =
 still : (k wants : LiteralKind) (event other : Event) (events after : List Event) → Applies k event events after
     → ((k ≡ wants → ⊥) → other.name ≡ event.name → ⊥) → ChangesEvents wants other after → ChangesEvents wants other events
 still kind.Cause kind.Cause event other events after applies apart absent = λ there.
-    absent (more_after kind.Cause event events after applies other there)
+    absent (more_after event events after applies other there)
 still kind.Cause kind.Suppress event other events after applies apart there =
     (others_stay kind.Cause event events after applies other (apart not_both)).1 there
   where
@@ -113,36 +120,30 @@ still kind.Suppress kind.Cause event other events after applies apart absent = �
     not_both : kind.Suppress ≡ kind.Cause → ⊥
     not_both same = cc
 still kind.Suppress kind.Suppress event other events after applies apart there =
-    more_after kind.Suppress event events after applies other there
+    fewer_after event events after applies other there
 
-leaf_apart : (k wants : LiteralKind) (name : NameId) (leaf : Plan) (number : ℕ) (other : Event) → IsUnread k name leaf
+pub leaf_apart : (k wants : LiteralKind) (name : NameId) (leaf : Plan) (number : ℕ) (other : Event) → IsUnmoved k name leaf
     → IsLeaf leaf wants number other → (k ≡ wants → ⊥) → other.name ≡ name → ⊥
-leaf_apart kind.Cause wants name (CausePlan node place own terms) number other unread is not same = not (sym is.0)
-leaf_apart kind.Suppress wants name (CausePlan node place own terms) number other unread is not same =
-    unread refl (sym is.2 ∙ same)
-leaf_apart kind.Cause wants name (SuppressPlan node place own terms) number other unread is not same =
-    unread refl (sym is.2 ∙ same)
-leaf_apart kind.Suppress wants name (SuppressPlan node place own terms) number other unread is not same = not (sym is.0)
-leaf_apart k wants name (Both node left right) number other unread is not same = absurd is
-leaf_apart k wants name (Either node left right) number other unread is not same = absurd is
-leaf_apart k wants name (TestOr node guard test body) number other unread is not same = absurd is
-leaf_apart k wants name (Guarded node xs guard test body) number other unread is not same = absurd is
-leaf_apart k wants name (EventuallyPlan node place low high body) number other unread is not same = absurd is
-leaf_apart k wants name (AlwaysPlan node place low high body) number other unread is not same = absurd is
-leaf_apart k wants name (UntilPlan node place low high left right) number other unread is not same = absurd is
-leaf_apart k wants name (NextPlan node place high body) number other unread is not same = absurd is
+leaf_apart kind.Cause wants name (CausePlan node place own terms) number other unmoved is not same = not (sym is.0)
+leaf_apart kind.Suppress wants name (CausePlan node place own terms) number other unmoved is not same =
+    unmoved refl (sym is.2 ∙ same)
+leaf_apart kind.Cause wants name (SuppressPlan node place own terms) number other unmoved is not same =
+    unmoved refl (sym is.2 ∙ same)
+leaf_apart kind.Suppress wants name (SuppressPlan node place own terms) number other unmoved is not same = not (sym is.0)
+leaf_apart k wants name (Both node left right) number other unmoved is not same = absurd is
+leaf_apart k wants name (Either node left right) number other unmoved is not same = absurd is
+leaf_apart k wants name (TestOr node guard test body) number other unmoved is not same = absurd is
+leaf_apart k wants name (Guarded node xs guard test body) number other unmoved is not same = absurd is
+leaf_apart k wants name (EventuallyPlan node place low high body) number other unmoved is not same = absurd is
+leaf_apart k wants name (AlwaysPlan node place low high body) number other unmoved is not same = absurd is
+leaf_apart k wants name (UntilPlan node place low high left right) number other unmoved is not same = absurd is
+leaf_apart k wants name (NextPlan node place high body) number other unmoved is not same = absurd is
 
-unread_leaf : (k : LiteralKind) (name : NameId) (plans : List Plan) (leaf : Plan) → AllByRecursion (IsUnreadIn k name) plans
-    → Contains (flat_map nodes plans) leaf → IsUnread k name leaf
-unread_leaf k name [] leaf all there = absurd (none_in leaf there)
-  where
-    none_in : (leaf : Plan) → Contains (flat_map nodes []) leaf → ⊥
-    none_in leaf (n, below, is) = omega (arith, below)
-unread_leaf k name (plan ∷ plans) leaf all there =
-    ⊎_elim
-    (λ front. AllByRecursion-contains (IsUnread k name) (nodes plan) leaf all.0 front)
-    (λ back. unread_leaf k name plans leaf all.1 back)
-    (Contains-append (nodes plan) (flat_map nodes plans) leaf there)
+pub unmoved_leaf : (k : LiteralKind) (name : NameId) (plans : List Plan) (leaf : Plan) → AllByRecursion (IsUnmovedIn k name) plans
+    → Contains (flat_map nodes plans) leaf → IsUnmoved k name leaf
+unmoved_leaf k name plans leaf all there =
+    let found = from_flat_map nodes plans leaf there in
+    AllByRecursion-contains (IsUnmoved k name) (nodes found.0) leaf (AllByRecursion-contains (IsUnmovedIn k name) plans found.0 all found.1) found.2
 
 -- the literals with the one property, of those with the other, are all that have the one, where each that has it has
 -- the other
@@ -242,47 +243,28 @@ module _ (plans : List Plan) (inserted : Bool) (guards : List (Formula × List V
         missing = more.2;
       }
 
--- ---- what stays so after an action on a name that nothing reads
+-- ---- what stays so after an action on a name that does not move it
 
 at_rule : (P : Plan → Type 0) (rule : ℕ) (ps : List Plan) (plan : Plan) → AllByRecursion P ps → slice_get ps rule ≡ Some plan → P plan
 at_rule P rule [] plan all e = absurd (none-some plan e)
 at_rule P zero (first ∷ ps) plan all e = subst P (same_Some first plan e) all.0
 at_rule P (suc rule) (first ∷ ps) plan all e = at_rule P rule ps plan all.1 e
 
-unread_stays : UnreadStaysMet → UnreadInstanceStaysMet → UnreadLeavesRest → (plans : List Plan) (guards : List (Formula × List VarId))
+pub moved_stays : UnreadStaysMet → UnreadInstanceStaysMet → UnreadLeavesRest → (plans : List Plan) (guards : List (Formula × List VarId))
     (k : LiteralKind) (event : Event) (events after : List Event) (trace : List Step) (time rule : ℕ) → Applies k event events after
-    → AllByRecursion (IsUnreadIn k event.name) plans
+    → AllByRecursion (IsUnmovedIn k event.name) plans
+    → ((plan : Plan) → slice_get plans rule ≡ Some plan → LeavesRestIn k event.name plan)
     → StaysAfter plans guards (trace_with_step trace time events) (trace_with_step trace time after) rule
-unread_stays met instances_met rest plans guards k event events after trace time rule applies unread =
+moved_stays met instances_met rest plans guards k event events after trace time rule applies unmoved leaves =
     let before : List Step = trace_with_step trace time events in
     let behind : List Step = trace_with_step trace time after in
     let differ : DiffersIn k event.name before behind = differs k event events after trace time applies in
     record {
-      plans_met = AllByRecursion-weaker (IsUnreadIn k event.name) (StaysMetAt guards before behind) plans
-          (λ plan own v can missing. met guards k event.name before behind plan v differ own can missing) unread;
-      instances_met = λ i forced can missing. instances_met guards k event.name before behind plans i forced differ unread can missing;
-      rest = λ plan missed there plain missing. rest k event.name before behind plan no_values missed differ
-          (at_rule (IsUnreadIn k event.name) rule plans plan unread there) plain missing;
-    }
-
--- and where an event goes of a name in which the plans are falling
-pub falling_stays : FallingStaysMet → FallingInstanceStaysMet → OwnLeavesRest → UnreadLeavesRest → (plans : List Plan)
-    (guards : List (Formula × List VarId)) (event : Event) (events after : List Event) (trace : List Step) (time rule : ℕ)
-    → TakesOut event events after → AllByRecursion (IsFallingIn event.name) plans
-    → ((plan : Plan) → slice_get plans rule ≡ Some plan → KeepsRest event.name plan)
-    → StaysAfter plans guards (trace_with_step trace time events) (trace_with_step trace time after) rule
-falling_stays met instances_met own unread plans guards event events after trace time rule taken falling keeps =
-    let before : List Step = trace_with_step trace time events in
-    let behind : List Step = trace_with_step trace time after in
-    let differ : DiffersIn kind.Suppress event.name before behind = differs kind.Suppress event events after trace time taken in
-    record {
-      plans_met = AllByRecursion-weaker (IsFallingIn event.name) (StaysMetAt guards before behind) plans
-          (λ plan falls v can missing. met guards event.name before behind plan v differ falls can missing) falling;
-      instances_met = λ i forced can missing. instances_met guards event.name before behind plans i forced differ falling can missing;
-      rest = λ plan missed there plain missing. ⊎_elim
-          (λ is. own event.name before behind plan no_values missed differ is missing)
-          (λ is. unread kind.Suppress event.name before behind plan no_values missed differ is.0 is.1 missing)
-          (keeps plan there);
+      plans_met = AllByRecursion-weaker (IsUnmovedIn k event.name) (StaysMetAt guards before behind) plans
+          (λ plan own v can missing. met guards k event.name before behind plan v differ own can missing) unmoved;
+      instances_met = λ i forced can missing. instances_met guards k event.name before behind plans i forced differ
+          (node_unmoved k event.name plans unmoved i) can missing;
+      rest = λ plan missed there plain missing. rest k event.name before behind plan no_values missed differ (leaves plan there) plain missing;
     }
 
 -- ---- the first
@@ -528,7 +510,9 @@ module _ (plans : List Plan) (pending : List Instance) (past : Past) (inserted :
     unread_each : (k : LiteralKind) (event : Event) (events after : List Event) (rule : ℕ) → Applies k event events after
         → AllByRecursion (IsUnreadIn k event.name) plans → AfterEach can events after rule
     unread_each k event events after rule applies unread trace =
-        unread_stays met instances_met rest plans (map placed_guard past.guards) k event events after trace time rule applies unread
+        moved_stays met instances_met rest plans (map placed_guard past.guards) k event events after trace time rule applies
+        (AllByRecursion-weaker (IsUnreadIn k event.name) (IsUnmovedIn k event.name) plans (unread_unmoved k event.name) unread)
+        (λ plan there. unread_rest k event.name plan (at_rule (IsUnreadIn k event.name) rule plans plan unread there))
 
     -- and after the action the rest of them is left
     pub left_behind : (events after : List Event) (rule : ℕ) (literal : Literal) (literals : List Literal) (given : List Event)
@@ -541,7 +525,9 @@ module _ (plans : List Plan) (pending : List Instance) (past : Past) (inserted :
         left_on can events after rule literal literals distinct applies
         (λ other there. let leaf = are other (later other literal literals there) in
         leaf_apart literal.kind other.kind literal.event.name leaf.leaf other.leaf other.event
-        (unread_leaf literal.kind literal.event.name plans leaf.leaf unread leaf.there) leaf.is)
+        (unmoved_leaf literal.kind literal.event.name plans leaf.leaf
+        (AllByRecursion-weaker (IsUnreadIn literal.kind literal.event.name) (IsUnmovedIn literal.kind literal.event.name) plans (unread_unmoved literal.kind literal.event.name) unread)
+        leaf.there) leaf.is)
         (unread_each literal.kind literal.event events after rule applies unread)
 
     pub left_spared : NothingClashes plans → (given events after : List Event) (rule : ℕ) (action : Action) (literals : List Literal)

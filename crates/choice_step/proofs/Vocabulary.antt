@@ -69,12 +69,15 @@ pub use Rattle.enf_data.specs.meaning.Values.{value_eq}
 pub use Rattle.enf_formula.specs.machine.Agreement.{HaveSameEvents, HaveSameNamedEvents, names_in_formula}
 pub use Rattle.enf_formula.specs.machine.Cases.{event_p, event_q, name_q, variable_x}
 pub use Rattle.enf_formula.specs.machine.Laws.{NamesDecide}
+pub use Rattle.enf_formula.specs.machine.Polarity.{HaveMoreOf}
 pub use Rattle.enf_formula.specs.meaning.Satisfaction.{Always, And, AtMost, Atom, Classically, Equal, Eventually, Exists, False, Forall, Formula, Historically, Implies, Less, Next, Not, Once, Or}
 pub use Rattle.enf_formula.specs.meaning.Satisfaction.{Prev, Sat, Since, True, Until}
 pub use Rattle.monitorable_guard.specs.machine.EventOrder.{shown_events}
 pub use Rattle.monitorable_guard.specs.machine.PresentMeaning.{HoldsNow}
 pub use Rattle.monitorable_guard.specs.machine.ValueSources.{IsArgument, IsFormulaConstant}
 pub use Rattle.obligations.proofs.ReachWidening.{IsReachedBy-wider}
+pub use Rattle.obligations.proofs.UnreadInstanceLemmas.{node_unmoved}
+pub use Rattle.obligations.proofs.UnreadNameLemmas.{unread_rest, unread_unmoved}
 pub use Rattle.obligations.specs.declared.actions.Action.{Action}
 pub use Rattle.obligations.specs.declared.instances.Instance.{Instance}
 pub use Rattle.obligations.specs.declared.literals.Literal.{Literal}
@@ -85,8 +88,7 @@ pub use Rattle.obligations.specs.machine.AskablePlans.{CanAskIn, CanAskOf, CanAs
 pub use Rattle.obligations.specs.machine.AskingLaws.{PendCanBeAsked, WellFormedCanBeAsked, WellFormedStand}
 pub use Rattle.obligations.specs.machine.Cases.{each_q, p_of_1, q_of_1}
 pub use Rattle.obligations.specs.machine.ExistenceLaws.{MissingExists, MissingOfExists, PendExists}
-pub use Rattle.obligations.specs.machine.FallingLaws.{FallingInstanceStaysMet, FallingStaysMet, OwnLeavesRest}
-pub use Rattle.obligations.specs.machine.FallingNames.{CanBatch, IsFalling, IsFallingIn, KeepsRest}
+pub use Rattle.obligations.specs.machine.MovedPlans.{CanBatch, IsUnmoved, IsUnmovedIn, LeavesRestIn}
 pub use Rattle.obligations.specs.machine.FirstMissing.{FirstMissing, FirstMissingOf, FirstOf}
 pub use Rattle.obligations.specs.machine.Leaves.{ChangesEvents, IsBound, IsLeaf, terms_of}
 pub use Rattle.obligations.specs.machine.LossLaws.{DeadlineIsNeeded, MissedIsServed, MissedIsServedPending, PendingIsEarlier, PendingIsOwed, SomethingMissedIsLost, SomethingMissedIsLostPending}
@@ -98,7 +100,7 @@ pub use Rattle.obligations.specs.machine.TriggerLaws.{UnwokenBeginsNothing, Unwo
 pub use Rattle.obligations.specs.machine.TriggeredNodes.{AreMetBy}
 pub use Rattle.obligations.specs.machine.UniquenessLaws.{MissingIsOne, MissingOfIsOne, PendIsOne}
 pub use Rattle.obligations.specs.machine.UnreadLaws.{UnreadInstanceStaysMet, UnreadLeavesRest, UnreadStaysMet}
-pub use Rattle.obligations.specs.machine.UnreadNames.{AreThoseWith, DiffersIn, HaveMore, IsStillWanted, IsUnread, IsUnreadIn}
+pub use Rattle.obligations.specs.machine.UnreadNames.{AreThoseWith, DiffersIn, IsStillWanted, IsUnread, IsUnreadIn}
 pub use Rattle.obligations.specs.machine.ValueLaws.{MissedAreOwn, MissedIsRight, MissedOfAreOwn, MissedOfIsRight}
 pub use Rattle.obligations.specs.machine.ValueSources.{IsKnownOn, IsOwnLiteral}
 pub use Rattle.obligations.specs.machine.WantedLiterals.{IsKnownAt, IsWanted, IsWantedOf}

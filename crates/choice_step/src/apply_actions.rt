@@ -16,7 +16,7 @@ use crate::first_missing::{Found, Place, act, action_of, action_of_root, plain_r
 use enf_data::event_sets::EventSet;
 use enf_data::events::NameId;
 use enf_data::memory::NoMemory;
-use obligations::laws::{falling_stays_met, unread_stays_met};
+use obligations::laws::unread_stays_met;
 use obligations::{Literal, LiteralKind};
 use past_state::PastState;
 use plan_terms::Plan;
@@ -51,7 +51,6 @@ pub fn act_for(
         (action_found time position found.entry) (rule_found found.entry) (root_literals found.entry) found.entry.place
         events.old events.new place)) }
 {
-    falling_stays_met();
     unread_stays_met();
     let Found {
         asked,

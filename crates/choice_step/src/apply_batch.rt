@@ -14,7 +14,7 @@ use enf_data::event_sets::EventSet;
 use enf_data::events::NameId;
 use enf_data::items::Duplicate;
 use enf_data::memory::NoMemory;
-use obligations::laws::{falling_stays_met, unread_stays_met};
+use obligations::laws::unread_stays_met;
 use obligations::{Literal, LiteralKind};
 use std::alloc::Global;
 
@@ -77,7 +77,6 @@ fn act_noting(
     ensures { OnOk result (ActsOwn time position rule name literals.now events.now actions.old
         (without_events events.now gone.new) actions.new) }
 {
-    falling_stays_met();
     unread_stays_met();
     // Its clause says that no event stands twice.
     let _given = events.as_slice();

@@ -5,7 +5,7 @@ ghost use Rattle.choice_step.specs.machine.Batches.{AreBatches};
 
 use enf_data::events::NameId;
 use enf_data::memory::NoMemory;
-use obligations::falling_names::batch_name;
+use obligations::moved_plans::batch_name;
 use plan_terms::Plan;
 use std::alloc::Global;
 use std::marker::Model;

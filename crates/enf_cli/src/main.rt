@@ -13,7 +13,7 @@ use enf_run::words::command_words;
 use std::process::ExitCode;
 
 fn main(rt: HostRuntime) -> ExitCode {
-    let mut gate = StdGate::new(rt.stdin(), rt.stdout());
+    let mut gate = StdGate::new(rt.alloc(), rt.stdin(), rt.stdout());
     let mut files = StdFiles::new(&rt);
     let mut report = StdSink::new(rt.stderr());
     let status = match command_words(&rt) {

@@ -5,6 +5,7 @@ mod checking;
 mod examples;
 mod faults;
 mod generating;
+mod holding;
 mod limits;
 mod rows;
 mod saving;

@@ -6,6 +6,7 @@ ghost use Rattle.enf_data.specs.declared.terms.VarId.{VarId};
 ghost use Rattle.enf_formula.specs.meaning.Satisfaction.{Formula, Sat};
 ghost use Rattle.enf_formula.specs.machine.Laws.{IsStable, AreEquivalent, FreeVariablesDecide, NamesDecide};
 ghost use Rattle.enf_formula.specs.machine.Laws.{PastDecides};
+ghost use Rattle.enf_formula.specs.machine.Polarity.{MoreEventsKeep};
 ghost use Rattle.enf_data.specs.meaning.Valuations.{Valuation};
 ghost use Rattle.enf_formula.specs.meaning.Satisfaction as tree;
 
@@ -47,4 +48,10 @@ pub fn dependence()
     ensures values { FreeVariablesDecide }
     ensures names { NamesDecide }
     ensures steps { PastDecides }
+{}
+
+/// A formula that asks events of a name only to be there holds still with more of them, and one that asks them only to
+/// be away holds still with fewer.
+pub fn polarity()
+    ensures { MoreEventsKeep }
 {}

@@ -1,10 +1,12 @@
-//! What can be read off a formula: its place, its size, whether it looks ahead.
+//! What can be read off a formula: its place, its size, whether it looks ahead, how it asks for events of a name.
 ghost use Rattle.std.specs.Prelude.{◌≡◌, ◌↔◌, ◌<◌, ◌^◌, IsTrue};
 ghost use Rattle.enf_formula.specs.machine.FormulaViews.{tree_of};
 ghost use Rattle.enf_formula.specs.machine.FormulaShape.{is_past as looks_back, formula_size};
+ghost use Rattle.enf_formula.specs.machine.Polarity.{AsksOnly};
 ghost use Rattle.enf_formula.specs.meaning.Satisfaction.{formula_place};
 
 use crate::formulas::Formula;
+use enf_data::events::NameId;
 use enf_data::places::Place;
 
 impl Formula {
@@ -90,6 +92,34 @@ impl Formula {
             | Formula::Or(_, f, g)
             | Formula::Implies(_, f, g)
             | Formula::Since(_, _, f, g) => f.is_past() && g.is_past(),
+        }
+    }
+
+    /// Whether it asks events of the name only to be there (`there`), or only to be away.
+    pub fn asks_only(&self, there: bool, name: NameId) -> bool
+        ensures { IsTrue result → AsksOnly there name (tree_of self.now) }
+    {
+        match self {
+            Formula::True(_)
+            | Formula::False(_)
+            | Formula::Equal(_, _, _)
+            | Formula::Less(_, _, _)
+            | Formula::AtMost(_, _, _) => true,
+            Formula::Atom(_, other, _) => there || other.0 != name.0,
+            Formula::Not(_, f) => f.asks_only(!there, name),
+            Formula::Exists(_, _, f)
+            | Formula::Forall(_, _, f)
+            | Formula::Prev(_, _, f)
+            | Formula::Next(_, _, f)
+            | Formula::Once(_, _, f)
+            | Formula::Historically(_, _, f)
+            | Formula::Eventually(_, _, f)
+            | Formula::Always(_, _, f) => f.asks_only(there, name),
+            Formula::And(_, f, g)
+            | Formula::Or(_, f, g)
+            | Formula::Since(_, _, f, g)
+            | Formula::Until(_, _, f, g) => f.asks_only(there, name) && g.asks_only(there, name),
+            Formula::Implies(_, f, g) => f.asks_only(!there, name) && g.asks_only(there, name),
         }
     }
 }

@@ -1,13 +1,17 @@
 //! Gates, sinks and files over the readers, writers and files of std. They tell no bytes, only their counts. Each
 //! call of theirs is one call of the reader, the writer or the files inside: an error of it is handed on and counted.
-ghost use Rattle.std.specs.Prelude.{◌≡◌, ◌<◌, ◌≤◌, ℕ, List, Option, Err, Ok, IfOk, IfErr, length};
-ghost use Rattle.std.specs.Io.KnownBytes.{ReadConsumes, WriteAppends};
+//! But a gate holds back what it is given, and hands it on in few calls.
+ghost use Rattle.std.specs.Prelude.{◌≡◌, ◌<◌, ◌≤◌, ◌++◌, ℕ, List, [], Option, Err, Ok, IfOk, IfErr, OnErr, length};
+ghost use Rattle.std.specs.Prelude.{drop, IsTrue, IsFalse, ◌+◌};
+ghost use Rattle.std.specs.Io.KnownBytes.{append_known, Keeps, ReadConsumes, WriteAppends};
 ghost use Rattle.enf_io.specs.meaning.FileCalls.{faults_after, ReadsFile, WritesFile};
 ghost use Rattle.enf_io.specs.meaning.Exchange.{Stream};
-ghost use Rattle.enf_io.specs.machine.StreamCalls.{Reads, Writes};
+ghost use Rattle.enf_io.specs.machine.StreamCalls.{Flushes, Reads, Writes, count_taken};
 ghost use Rattle.enf_io.specs.meaning.Files.{FileView};
-ghost use Rattle.enf_io.specs.machine.Adapters.{AdaptedFiles, AdaptedOutput, AdaptedPair, AsksOpened, IsOneCall};
-ghost use Rattle.enf_io.specs.machine.Adapters.{adapted, adapted_write, untold_files, untold_stream};
+ghost use Rattle.enf_io.specs.declared.adapters.TheConstants.{MOST_HELD_BYTES};
+ghost use Rattle.enf_io.specs.machine.Adapters.{AdaptedFiles, AdaptedOutput, AdaptedPair, AsksOpened, GivesPiece};
+ghost use Rattle.enf_io.specs.machine.Adapters.{HandsOn, IsOneCall, adapted, adapted_write, untold_files};
+ghost use Rattle.enf_io.specs.machine.Adapters.{untold_output, untold_pair, with_held};
 
 use crate::devices::{Files, Gate, IoRefusal, Sink};
 use crate::outside::{FileOnce, FilesOnce, ReadOnce, RuntimeFiles, WriteOnce};
@@ -41,45 +45,64 @@ impl<O: WriteOnce> StdSink<O> {
 }
 
 impl<O: WriteOnce> Sink for StdSink<O> {
-    ghost seen = { λ s. untold_stream 0 s.write_faults };
+    ghost seen = { untold_output };
 
     #[inline(always)]
     fn write(&mut self, bytes: &[u8]) -> Result<usize, IoRefusal>
         ensures once { IsOneCall (λ answer. O.write_gives self.old.writer bytes.now answer self.new.writer)
             (adapted_write bytes.now) result }
         ensures bytes { WriteAppends (O.held self.old.writer) (O.held self.new.writer) result bytes.now }
-        ensures seen { Writes bytes.now result
-            (untold_stream 0 self.old.write_faults) (untold_stream 0 self.new.write_faults) }
+        ensures seen { Writes bytes.now result (untold_output self.old) (untold_output self.new) }
     {
         let answer = self.output.write_once(bytes);
         counted(some_of(bytes, answer), &mut self.write_faults)
     }
 }
 
-/// A gate over a reader and a writer. Each write goes to the writer as it comes, so take one that keeps nothing back.
+/// How many bytes a gate over std holds back at most.
+pub const MOST_HELD_BYTES: usize = 65_536;
+
+/// A gate over a reader and a writer. What it is given it holds back until it is full or flushed, and then hands it on
+/// to the writer, so take one that keeps nothing back. Where there is no memory for that, each write goes to the writer
+/// as it comes.
 #[derive(Drop)]
 pub struct StdGate<I: ReadOnce, O: WriteOnce> {
     input: I,
     read_faults: u64,
     output: StdSink<O>,
+    held: Vec<u8>,
+    // At how many reads something was held back.
+    late_reads: u64,
 }
 
 impl<I: ReadOnce, O: WriteOnce> Model for StdGate<I, O> {
     ghost Value = { AdaptedPair I O };
 
-    ghost view = { λ g. record { reader = g.input; read_faults = g.read_faults; output = g.output } };
+    ghost view = { λ g. record {
+      reader = g.input;
+      read_faults = g.read_faults;
+      output = g.output;
+      held = g.held.items;
+      late_reads = g.late_reads;
+    } };
+
+    ghost invariant = { λ g. length g.held.items ≤ MOST_HELD_BYTES };
 }
 
 impl<I: ReadOnce, O: WriteOnce> StdGate<I, O> {
-    pub fn new(input: I, output: O) -> StdGate<I, O>
+    pub fn new(alloc: Global, input: I, output: O) -> StdGate<I, O>
         ensures reader { result.reader ≡ input }
         ensures read_faults { result.read_faults ≡ 0 }
         ensures output { result.output ≡ record { writer = output; write_faults = 0 } }
+        ensures held { result.held ≡ [] }
+        ensures late { result.late_reads ≡ 0 }
     {
         StdGate {
             input,
             read_faults: 0,
             output: StdSink::new(output),
+            held: Vec::new(alloc),
+            late_reads: 0,
         }
     }
 }
@@ -91,32 +114,113 @@ impl<I: ReadOnce, O: WriteOnce> Gate for StdGate<I, O> {
             adapted result }
         ensures bytes { ReadConsumes (I.left self.old.reader) (I.left self.new.reader) result buf.new }
         ensures output { self.new.output ≡ self.old.output }
-        ensures seen { Reads buf.new result
-            (untold_stream self.old.read_faults self.old.output.write_faults)
-            (untold_stream self.new.read_faults self.new.output.write_faults) }
+        ensures held { self.new.held ≡ self.old.held }
+        ensures seen { Reads buf.new result (untold_pair self.old) (untold_pair self.new) }
     {
+        if !self.held.is_empty() {
+            self.late_reads = self.late_reads.saturating_add(1);
+        }
         let answer = self.input.read_once(buf);
         counted(answer, &mut self.read_faults)
+    }
+
+    fn flush(&mut self) -> Result<(), IoRefusal>
+        ensures calls { HandsOn O.write_gives result self.old.held self.new.held
+            self.old.output.writer self.new.output.writer }
+        ensures bytes { Keeps (with_held O.held self.old) (with_held O.held self.new) }
+        ensures reader { self.new.reader ≡ self.old.reader }
+        ensures seen { Flushes result (untold_pair self.old) (untold_pair self.new) }
+    {
+        hand_on(&mut self.output, &mut self.held)
     }
 }
 
 impl<I: ReadOnce, O: WriteOnce> Sink for StdGate<I, O> {
-    ghost seen = { λ g. untold_stream g.read_faults g.output.write_faults };
+    ghost seen = { untold_pair };
 
     #[inline(always)]
     fn write(&mut self, bytes: &[u8]) -> Result<usize, IoRefusal>
-        ensures once { IsOneCall
-            (λ answer. O.write_gives self.old.output.writer bytes.now answer self.new.output.writer)
-            (adapted_write bytes.now) result }
-        ensures bytes { WriteAppends (O.held self.old.output.writer) (O.held self.new.output.writer)
-            result bytes.now }
+        ensures calls { GivesPiece O.write_gives bytes.now result self.old.held self.new.held
+            self.old.output.writer self.new.output.writer }
+        ensures bytes { WriteAppends (with_held O.held self.old) (with_held O.held self.new) result bytes.now }
+        ensures few { length self.new.held ≤ MOST_HELD_BYTES }
         ensures reader { self.new.reader ≡ self.old.reader }
-        ensures seen { Writes bytes.now result
-            (untold_stream self.old.read_faults self.old.output.write_faults)
-            (untold_stream self.new.read_faults self.new.output.write_faults) }
+        ensures seen { Writes bytes.now result (untold_pair self.old) (untold_pair self.new) }
     {
-        self.output.write(bytes)
+        if keep(bytes, &mut self.held) {
+            return Ok(bytes.len());
+        }
+        write_on(bytes, &mut self.output, &mut self.held)
     }
+}
+
+// Keeps a piece behind what is held back, where there is room.
+#[inline(always)]
+fn keep(bytes: &[u8], held: &mut Vec<u8>) -> bool
+    requires { length held.old.items ≤ MOST_HELD_BYTES }
+    ensures kept { IsTrue result → held.new.items ≡ held.old.items ++ bytes.now }
+    ensures left { IsFalse result → held.new.items ≡ held.old.items }
+    ensures few { length held.new.items ≤ MOST_HELD_BYTES }
+{
+    bytes.len() <= MOST_HELD_BYTES - held.len() && held.extend_from_slice(bytes).is_ok()
+}
+
+// Gives a piece to the writer past what is held back; it may be kept in its turn.
+#[inline(never)]
+fn write_on<O: WriteOnce>(
+    bytes: &[u8],
+    output: &mut StdSink<O>,
+    held: &mut Vec<u8>,
+) -> Result<usize, IoRefusal>
+    requires { length held.old.items ≤ MOST_HELD_BYTES }
+    ensures calls { GivesPiece O.write_gives bytes.now result held.old.items held.new.items
+        output.old.writer output.new.writer }
+    ensures bytes { WriteAppends (append_known (O.held output.old.writer) held.old.items)
+        (append_known (O.held output.new.writer) held.new.items) result bytes.now }
+    ensures few { length held.new.items ≤ MOST_HELD_BYTES }
+    ensures within { IfOk result (λ count. count ≤ length bytes.now) }
+    ensures some { IfOk result (λ count. 0 < length bytes.now → 0 < count) }
+    ensures held { length held.new.items ≤ length held.old.items + count_taken result }
+    ensures counted { output.new.write_faults ≡ faults_after result output.old.write_faults }
+{
+    hand_on(output, held)?;
+    if keep(bytes, held) {
+        return Ok(bytes.len());
+    }
+    output.write(bytes)
+}
+
+// Hands on what is held back, in as many turns as the writer needs.
+fn hand_on<O: WriteOnce>(output: &mut StdSink<O>, held: &mut Vec<u8>) -> Result<(), IoRefusal>
+    ensures calls { HandsOn O.write_gives result held.old.items held.new.items output.old.writer output.new.writer }
+    ensures bytes { Keeps (append_known (O.held output.old.writer) held.old.items)
+        (append_known (O.held output.new.writer) held.new.items) }
+    ensures some_left { OnErr result (0 < length held.new.items) }
+    ensures part { length held.new.items ≤ length held.old.items }
+    ensures counted { output.new.write_faults ≡ faults_after result output.old.write_faults }
+{
+    let mut written = 0;
+    while written < held.len() {
+        match output.write(&held[written..]) {
+            Ok(count) => written += count,
+            Err(refusal) => {
+                let_go(held, written);
+                return Err(refusal);
+            }
+        }
+    }
+    held.clear();
+    Ok(())
+}
+
+// Lets the first bytes go.
+fn let_go(bytes: &mut Vec<u8>, count: usize)
+    requires { count ≤ length bytes.old.items }
+    ensures { bytes.new.items ≡ drop count bytes.old.items }
+{
+    let left = bytes.len() - count;
+    bytes.copy_within(count.., 0);
+    bytes.truncate(left);
 }
 
 /// The files of a runtime, by path. A fault at one of them counts for every name.

@@ -1,9 +1,9 @@
 //! A gate over memory.
 ghost use Rattle.std.specs.Prelude.{◌≡◌, ◌++◌, OnOk, OnErr, IfErr, IfOk, List, [], ℕ, ◌<◌, ◌≤◌};
-ghost use Rattle.std.specs.Prelude.{length, take, drop, min};
+ghost use Rattle.std.specs.Prelude.{length, take, drop, min, Ok};
 ghost use Rattle.std.specs.Vec.Iter.{into_iter_items};
 ghost use Rattle.enf_io.specs.meaning.Exchange.{Exchange, input_left, Stream};
-ghost use Rattle.enf_io.specs.machine.StreamCalls.{with_taken, with_read_mark, Reads, Writes};
+ghost use Rattle.enf_io.specs.machine.StreamCalls.{Flushes, with_taken, with_read_mark, Reads, Writes};
 ghost use Rattle.enf_io.specs.meaning.ExchangeGrowth.{with_given};
 ghost use Rattle.enf_io.specs.machine.CalmDevices.{CalmExchange, calm_stream, within_piece};
 
@@ -86,6 +86,13 @@ impl Gate for CalmGate {
         buf[..count].copy_from_slice(&rest[..count]);
         self.taken += count;
         Ok(count)
+    }
+    // Nothing is held back.
+    fn flush(&mut self) -> Result<(), IoRefusal>
+        ensures same { self.new ≡ self.old }
+        ensures ok { result ≡ Ok tt }
+    {
+        Ok(())
     }
 }
 

@@ -1,7 +1,7 @@
 //! What the program asks of a device.
 ghost use Rattle.std.specs.Prelude.{◌≡◌, List, ℕ, ◌<◌, length};
 ghost use Rattle.enf_io.specs.meaning.Exchange.{Stream};
-ghost use Rattle.enf_io.specs.machine.StreamCalls.{Reads, Writes};
+ghost use Rattle.enf_io.specs.machine.StreamCalls.{Flushes, Reads, Writes};
 ghost use Rattle.enf_io.specs.meaning.Files.{FileView};
 ghost use Rattle.enf_io.specs.meaning.FileCalls.{ReadsFile, WritesFile};
 
@@ -75,6 +75,10 @@ pub trait Gate: Sink {
     fn read(&mut self, buf: &mut [u8]) -> Result<usize, IoRefusal>
         requires { 0 < length buf.old }
         ensures { Reads buf.new result (Self.seen self.old) (Self.seen self.new) };
+
+    /// Hands on what is held back of the bytes given.
+    fn flush(&mut self) -> Result<(), IoRefusal>
+        ensures { Flushes result (Self.seen self.old) (Self.seen self.new) };
 }
 
 /// Files by name.

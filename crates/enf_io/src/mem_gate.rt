@@ -1,9 +1,9 @@
 //! A gate over memory whose reads and writes follow turns.
 ghost use Rattle.std.specs.Prelude.{◌≡◌, ◌<◌, ◌≤◌, IfOk, IsErrOf, List, [], None, Some, length, take};
-ghost use Rattle.std.specs.Prelude.{min};
+ghost use Rattle.std.specs.Prelude.{min, Ok};
 ghost use Rattle.enf_io.specs.machine.MemDevices.{MemExchange, after_read, after_write, mem_stream, mem_input_left};
 ghost use Rattle.enf_io.specs.meaning.Exchange.{Stream};
-ghost use Rattle.enf_io.specs.machine.StreamCalls.{Reads, Writes};
+ghost use Rattle.enf_io.specs.machine.StreamCalls.{Flushes, Reads, Writes};
 ghost use Rattle.enf_io.specs.machine.Turns.{next_turn, read_by, write_by};
 
 use crate::devices::{Gate, IoRefusal, Sink};
@@ -102,6 +102,13 @@ impl Gate for MemGate {
                 Err(IoRefusal::Failed)
             }
         }
+    }
+    // Nothing is held back.
+    fn flush(&mut self) -> Result<(), IoRefusal>
+        ensures same { self.new ≡ self.old }
+        ensures ok { result ≡ Ok tt }
+    {
+        Ok(())
     }
 }
 

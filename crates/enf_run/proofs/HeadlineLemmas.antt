@@ -196,7 +196,8 @@ module _ {Gate : Type 0} (call : Call Gate) where
 
     reads_cut : (report : Stream) (cut : Cut) → CutsRun s before (seen_of call.after.gate report) cut → AtReads
     reads_cut report cuts.WriteFault (inl at) = at_reads at.short.taken at.short.given at.short.exchanged
-    reads_cut report cuts.WriteFault (inr at) = at_reads at.short.taken at.short.given at.short.exchanged
+    reads_cut report cuts.WriteFault (inr (inl at)) = at_reads at.short.taken at.short.given at.short.exchanged
+    reads_cut report cuts.WriteFault (inr (inr at)) = at_reads at.0.short.taken at.0.short.given at.0.short.exchanged
     reads_cut report cuts.NoMemory at = at_reads at.short.taken at.short.given at.short.exchanged
 
     reads_log_cut : (report : Stream) (cut : Cut) → CutsLog call report cut → AtReads

@@ -7,6 +7,8 @@ pub mod ExchangeLemmas
 pub mod FileLemmas
 pub mod GatheredPieces
 pub mod GeneratedLogLemmas
+pub mod HandedOnLemmas
+pub mod HandingLemmas
 pub mod HeadlineLemmas
 pub mod IntakeLemmas
 pub mod LineLemmas

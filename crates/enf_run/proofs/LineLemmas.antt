@@ -2,7 +2,7 @@
 use Rattle.enf_run.proofs.Vocabulary.{none_more, one_more, ◌≡◌, ℕ, ◌+◌, ◌<◌, List, [], ◌∷◌, ◌++◌, refl, sym, ap, subst, ◌∙◌, append_assoc, inl, inr, length, length-append, map, take, drop, get_or}
 use Rattle.enf_run.proofs.Vocabulary.{arith, ◌-◌, append-nil, map-append, take-append-drop, take_at, take_more, flat_map-append, flat_map-map, Gave, Stream, ActedStep, out_step, out_steps, acted_step}
 use Rattle.enf_run.proofs.Vocabulary.{acted_steps, Rule, line_of, text_of, entry_names as names_of, NameEntry, Gains, IsFrontOfActions, SaysActions, SaysActionsInPart, joined_texts, Seen}
-use Rattle.enf_run.proofs.Vocabulary.{action_lines, step_action_lines, faults_behind, CutsActions, CutsSteps, GivesSteps, Cut}
+use Rattle.enf_run.proofs.Vocabulary.{action_lines, step_action_lines, faults_behind, CutsActions, CutsHanding, CutsSteps, GivesSteps, Cut, Exchange, Option}
 use Rattle.enf_run.proofs.ExchangeLemmas.{gave_more, gave_none}
 use Rattle.enf_run.proofs.TextLemmas.{Broken, Whole}
 use Rattle.enforcer_core.specs.declared.steps.OutStep as made
@@ -101,21 +101,42 @@ module _ (entries : List NameEntry) (rules : List Rule) where
         })
 
     -- or the lines of its actions
-    pub cut_actions : Whole (line_of names (out_step step)) b.gate c.gate → Broken (step_action_lines entries rules step) cut b.report c.report → CutsSteps entries rules (out ++ step ∷ behind) cut a c
-    cut_actions line w =
-        inr (record {
+    pub cut_actions : Whole (line_of names (out_step step)) b.gate c.gate → c.gate.held ≡ 0 → Broken (step_action_lines entries rules step) cut b.report c.report
+        → CutsSteps entries rules (out ++ step ∷ behind) cut a c
+    cut_actions line handed w =
+        inr (inl (record {
           first = out;
           last = step;
           behind = behind;
           split = sym (append_assoc out (step ∷ []) behind);
           lines = subst (λ (text : List ℕ). Gains text a.gate c.gate) (sym (lines_behind names out (step ∷ [])))
               (gains_more (lines out) (lines (step ∷ [])) a.gate b.gate c.gate given.lines (gains_one (line_of names (out_step step)) b.gate c.gate line));
+          handed = handed;
           front = w.adds.front;
           part = w.adds.part;
           gave = gave_more (said out) w.adds.front a.report.told b.report.told c.report.told given.actions.gave w.adds.gave;
           writes = w.writes ∙ ap (faults_behind cut) given.actions.writes;
           reads = w.reads ∙ given.actions.reads;
-        })
+        }))
+
+    -- or before these, since what the gate held back was not handed on
+    pub cut_handing : (m : Stream) → Whole (line_of names (out_step step)) b.gate m → c.gate.told ≡ m.told → 0 < c.gate.held
+        → c.gate.write_faults ≡ faults_behind cut m.write_faults → c.gate.read_faults ≡ m.read_faults → c.report ≡ b.report
+        → CutsSteps entries rules (out ++ step ∷ behind) cut a c
+    cut_handing m line told held writes reads same =
+        let gains : Gains (lines (out ++ step ∷ [])) a.gate m = subst (λ (text : List ℕ). Gains text a.gate m) (sym (lines_behind names out (step ∷ [])))
+        (gains_more (lines out) (lines (step ∷ [])) a.gate b.gate m given.lines (gains_one (line_of names (out_step step)) b.gate m line)) in
+        inr (inr (record {
+          first = out;
+          last = step;
+          behind = behind;
+          split = sym (append_assoc out (step ∷ []) behind);
+          gave = subst (λ (o : Option Exchange). Gave (lines (out ++ step ∷ [])) a.gate.told o) (sym told) gains.gave;
+          held = held;
+          writes = writes ∙ ap (faults_behind cut) gains.writes;
+          reads = reads ∙ gains.reads;
+          actions = subst (SaysActions entries rules out a.report) (sym same) given.actions;
+        }))
 
   -- ---- a front of what is said
 
@@ -182,6 +203,23 @@ module _ (entries : List NameEntry) (rules : List Rule) where
         (sym (append_assoc (said out) (said c.first) c.front) ∙ ap (λ (text : List ℕ). text ++ c.front)
         (sym (actions_behind out c.first)))
         (gave_more (said out) (said c.first ++ c.front) a.told before.report.told after.report.told actions.gave c.gave)
+
+  -- the lines of the actions of the last of these steps are all missing
+  pub said_but_last : (out steps : List ActedStep) (cut : Cut) (a : Stream) (before after : Seen)
+      (actions : SaysActions entries rules out a before.report)
+      (c : CutsHanding entries rules steps cut before after)
+      → SaysActionsInPart entries rules (out ++ (c.first ++ c.last ∷ [])) none_more a after.report
+  said_but_last out steps cut a before after actions c =
+      let said_all = says_more out c.first a before.report after.report actions c.actions in
+      record {
+        front = said (out ++ c.first) ++ [];
+        missing = step_action_lines entries rules c.last;
+        is_front = subst (λ (all : List ActedStep). IsFrontOfActions entries rules all (said (out ++ c.first) ++ []) (step_action_lines entries rules c.last))
+            (append_assoc out c.first (c.last ∷ [])) (front_of (out ++ c.first) c.last [] (step_action_lines entries rules c.last) refl);
+        gave = subst (λ (text : List ℕ). Gave text a.told after.report.told) (sym (append-nil (said (out ++ c.first)))) said_all.gave;
+        writes = said_all.writes;
+        reads = said_all.reads;
+      }
 
   -- a write to the report failed within the actions of the last of these steps
   abbrev pub fails_within : (out steps : List ActedStep) (a : Stream) (before after : Seen)

@@ -1,18 +1,20 @@
 -- How far the run of a log has come, and one turn more.
 use Rattle.enf_run.proofs.Vocabulary.{◌≡◌, ℕ, ◌+◌, ◌-◌, ◌<◌, ◌≤◌, List, [], ◌∷◌, ◌++◌, length, refl, sym, ap, subst, ◌∙◌, inl, inr, Option, arith, append_assoc, ◌⊎◌, IsTrue, append-nil, map-append}
-use Rattle.enf_run.proofs.Vocabulary.{length_push, one_more, Exchange, Stream, Gave, Formula, Rule, Step, ActedStep, out_steps, steps_of, Permits, Course, IsJustOne, FollowsPolicy, FollowsToEnd}
-use Rattle.enf_run.proofs.Vocabulary.{AreDistinct, VarId, Enforcing, enforcer_plans, acted_steps, Stands, StepOut, SpellsRecords-append, SpellsRecords-blanks, SpellsRecords-none, SpellsRecords-push}
-use Rattle.enf_run.proofs.Vocabulary.{BeginsWithRecord-shorter, text_of, BeginsWithRecord, IsPending, SpellsRecords, behind_blanks, LogItem, Input, entry_names as names_of, NameEntry, Good, trace_of}
-use Rattle.enf_run.proofs.Vocabulary.{Record, clock_after, recorded, GoodPrefix, UpToDate, IsOwedInAll, IsOwedSoFar, LogSetting, is_causable, is_suppressible, ArePlanned, StoredTyped, WorkTogether}
-use Rattle.enf_run.proofs.Vocabulary.{typed_of, SaysActions, Seen, CutsActions, CutsLine, CutsSteps, all_formulas, most_log_bytes, record_of, records_of, IsTransparentPolicy, Exchanged, IsReadBegun}
-use Rattle.enf_run.proofs.Vocabulary.{LosesBytes, TakesBytes, CutsRun, FailsAtGate, FailsAtReport, IsCutLine, IsOwedWhere, LacksMemory, RunsShort, taken_log_of, RanSo, HasPlans, enforcer_setting}
-use Rattle.enf_run.proofs.Vocabulary.{AcceptsRecords, Plan, is_transparent, CutsDrain, CutsDrainLines, CutsTaken, GivesDrain, GivesRest, LosesTurn, TakesItem, WritesNothing, LogMoment, log_moment}
-use Rattle.enf_run.proofs.Vocabulary.{EnforcerDrains, EnforcerTakes, EnforcerLaws, Cut, Enforcement, Judged, Verdict}
-use Rattle.std.specs.Prelude.{Bool, true, false}
+use Rattle.enf_run.proofs.Vocabulary.{length_push, none_more, one_more, HandsOver, Exchange, Stream, Gave, Formula, Rule, Step, ActedStep, out_steps, steps_of, Permits, Course, IsJustOne}
+use Rattle.enf_run.proofs.Vocabulary.{FollowsPolicy, FollowsToEnd, AreDistinct, VarId, Enforcing, enforcer_plans, acted_steps, Stands, StepOut, SpellsRecords-append, SpellsRecords-blanks}
+use Rattle.enf_run.proofs.Vocabulary.{SpellsRecords-none, SpellsRecords-push, BeginsWithRecord-shorter, text_of, BeginsWithRecord, IsPending, SpellsRecords, behind_blanks, LogItem, Input}
+use Rattle.enf_run.proofs.Vocabulary.{entry_names as names_of, NameEntry, Good, trace_of, Record, clock_after, recorded, GoodPrefix, UpToDate, IsOwedInAll, IsOwedSoFar, LogSetting, is_causable}
+use Rattle.enf_run.proofs.Vocabulary.{is_suppressible, ArePlanned, StoredTyped, WorkTogether, typed_of, SaysActions, Seen, CutsActions, CutsHanding, CutsLine, CutsSteps, all_formulas, most_log_bytes}
+use Rattle.enf_run.proofs.Vocabulary.{record_of, records_of, IsTransparentPolicy, Exchanged, IsReadBegun, LosesBytes, TakesBytes, CutsRun, FailsAtGate, FailsAtReport, IsCutLine, IsOwedWhere}
+use Rattle.enf_run.proofs.Vocabulary.{StopsShort, RunsShort, taken_log_of, RanSo, IsOwedAtEnd, faults_behind, HoldsTurn, LogEndsAs, seen_of, HasPlans, enforcer_setting, AcceptsRecords, Plan}
+use Rattle.enf_run.proofs.Vocabulary.{is_transparent, CutsDrain, CutsDrainLines, CutsTaken, GivesDrain, GivesRest, LosesTurn, TakesItem, WritesNothing, LogMoment, log_moment, EnforcerDrains}
+use Rattle.enf_run.proofs.Vocabulary.{EnforcerTakes, EnforcerLaws, Cut, Enforcement, Judged, Verdict}
+use Rattle.std.specs.Prelude.{Bool, true, false, Err}
 use Rattle.enf_run.proofs.CutLineLemmas.{cut_none}
-use Rattle.enf_run.proofs.LineLemmas.{all_said, fails_within, gains_none, lines_behind, said_in_part, says_more}
+use Rattle.enf_run.proofs.LineLemmas.{all_said, fails_within, gains_none, lines_behind, said_but_last, said_in_part, says_more}
 use Rattle.enf_run.proofs.ExchangeLemmas.{begun_gave, exchanged_gave}
 use Rattle.enf_run.proofs.IntakeLemmas.{IsEnded, IsFar, ends_gave, exchanged_more, far_gave, far_none, far_took}
+use Rattle.enf_run.proofs.HandingLemmas.{ends_handed}
 use Rattle.enf_run.proofs.LogLemmas.{read_distinct}
 use Rattle.enf_run.specs.declared.endings.Cut.TheVariants as cuts
 
@@ -239,6 +241,14 @@ module _ (entries : List NameEntry) (rules : List Rule) (first : Enforcing) (tra
           r.split accepted exchanged gave (cut_none (names_of entries) r.behind)
           (owed lines r.lines.gave r.lines.reads)
 
+      abbrev held_short : (cut : Cut) (h : CutsHanding entries rules steps cut b c) → RunsShort setting before.gate c.gate
+      held_short cut h =
+          let lines = text_of (names_of entries) (out_steps (h.first ++ h.last ∷ [])) in
+          let gave = subst (λ (l : List ℕ). Gave l b.gate.told c.gate.told) (sym (append-nil lines)) h.gave in
+          short_steps before.gate taken rest read b.gate c.gate out steps (h.first ++ h.last ∷ []) h.behind []
+          h.split accepted exchanged gave (cut_none (names_of entries) h.behind)
+          (owed lines h.gave h.reads)
+
       gate_fails : CutsLine entries rules steps cuts.WriteFault b c → FailsAtGate setting before c
       gate_fails l =
           record {
@@ -254,13 +264,14 @@ module _ (entries : List NameEntry) (rules : List Rule) (first : Enforcing) (tra
           record {
             short = report_short cuts.WriteFault r;
             none = refl;
+            handed = r.handed;
             begun = begun_gave (UpToDate setting) taken given before.gate.told b.gate.told c.gate.told exchanged (text_of (names_of entries) (out_steps (r.first ++ r.last ∷ []))) r.lines.gave begun;
             writes = r.lines.writes ∙ writes;
             actions = fails_within entries rules out steps before.report b c actions r;
             some = r.part.some;
           }
 
-      gate_lacks : CutsLine entries rules steps cuts.NoMemory b c → LacksMemory setting before c
+      gate_lacks : CutsLine entries rules steps cuts.NoMemory b c → StopsShort none_more setting before c
       gate_lacks l =
           record {
             short = gate_short cuts.NoMemory l;
@@ -268,47 +279,67 @@ module _ (entries : List NameEntry) (rules : List Rule) (first : Enforcing) (tra
             actions = all_said entries rules (out ++ l.whole) before.report c.report (says_more entries rules out l.whole before.report b.report c.report actions l.actions);
           }
 
-      report_lacks : CutsActions entries rules steps cuts.NoMemory b c → LacksMemory setting before c
+      report_lacks : CutsActions entries rules steps cuts.NoMemory b c → StopsShort none_more setting before c
       report_lacks r =
           record { short = report_short cuts.NoMemory r; writes = r.lines.writes ∙ writes; actions = said_in_part entries rules out steps before.report b c actions r }
 
+      held_stops : (cut : Cut) → CutsHanding entries rules steps cut b c → StopsShort (faults_behind cut) setting before c
+      held_stops cut h =
+          record {
+            short = held_short cut h;
+            writes = h.writes ∙ ap (faults_behind cut) writes;
+            actions = said_but_last entries rules out steps cut before.report b c actions h;
+          }
+
       cut_steps : (cut : Cut) → CutsSteps entries rules steps cut b c → CutsRun setting before c cut
       cut_steps cuts.WriteFault (inl l) = inl (gate_fails l)
-      cut_steps cuts.WriteFault (inr r) = inr (report_fails r)
+      cut_steps cuts.WriteFault (inr (inl r)) = inr (inl (report_fails r))
+      cut_steps cuts.WriteFault (inr (inr h)) = inr (inr (held_stops cuts.WriteFault h, h.held))
       cut_steps cuts.NoMemory (inl l) = gate_lacks l
-      cut_steps cuts.NoMemory (inr r) = report_lacks r
+      cut_steps cuts.NoMemory (inr (inl r)) = report_lacks r
+      cut_steps cuts.NoMemory (inr (inr h)) = held_stops cuts.NoMemory h
 
-    -- nothing more was given where memory ran out
-    lacks_all : (before c : Seen) (taken rest : List ℕ) (now : Enforcing) (h : HasRead taken rest now)
-        → Exchanged (UpToDate setting) taken (text_of (names_of entries) (out_steps h.out)) before.gate.told
-        c.gate.told
-        → IsOwedWhere setting (taken_log_of setting h.read taken rest) before.gate c.gate h.out
-        → c.gate.write_faults ≡ before.gate.write_faults
-        → SaysActions entries rules h.out before.report c.report → LacksMemory setting before c
-    lacks_all before c taken rest now h exchanged owed writes actions =
-        let given = text_of (names_of entries) (out_steps h.out) in
-        let good = good_owed h.read taken rest before.gate c.gate h.out owed in
+    -- nothing more was given
+    stops_all : (faults : ℕ → ℕ) (before c : Seen) (taken rest : List ℕ) (read : List LogItem) (out : List ActedStep)
+        → AcceptsRecords entries Input first.clock taken read rest
+        → Exchanged (UpToDate setting) taken (text_of (names_of entries) (out_steps out)) before.gate.told c.gate.told
+        → IsOwedWhere setting (taken_log_of setting read taken rest) before.gate c.gate out
+        → c.gate.write_faults ≡ faults before.gate.write_faults
+        → SaysActions entries rules out before.report c.report → StopsShort faults setting before c
+    stops_all faults before c taken rest read out accepted exchanged owed writes actions =
+        let given = text_of (names_of entries) (out_steps out) in
+        let good = good_owed read taken rest before.gate c.gate out owed in
         record {
           short = record {
             taken = taken;
             given = given;
             exchanged = exchanged;
-            read = h.read;
+            read = read;
             rest = rest;
-            accepts = accepts taken rest now h;
-            out = h.out;
+            accepts = accepted;
+            out = out;
             owed = owed;
-            whole = h.out;
+            whole = out;
             behind = [];
-            split = sym (append-nil h.out);
+            split = sym (append-nil out);
             cut = [];
             line = refl;
             lines = sym (append-nil given);
-            good = good_front h.out h.out [] good.0 (sym (append-nil h.out)) good.1;
+            good = good_front out out [] good.0 (sym (append-nil out)) good.1;
           };
           writes = writes;
-          actions = all_said entries rules h.out before.report c.report actions;
+          actions = all_said entries rules out before.report c.report actions;
         }
+
+    -- nor where memory ran out
+    lacks_all : (before c : Seen) (taken rest : List ℕ) (now : Enforcing) (h : HasRead taken rest now)
+        → Exchanged (UpToDate setting) taken (text_of (names_of entries) (out_steps h.out)) before.gate.told
+        c.gate.told
+        → IsOwedWhere setting (taken_log_of setting h.read taken rest) before.gate c.gate h.out
+        → c.gate.write_faults ≡ before.gate.write_faults
+        → SaysActions entries rules h.out before.report c.report → StopsShort none_more setting before c
+    lacks_all before c taken rest now h exchanged owed writes actions =
+        stops_all none_more before c taken rest h.read h.out (accepts taken rest now h) exchanged owed writes actions
 
     module _ (before : Seen) (taken rest : List ℕ) (accepted : ℕ) (now : Enforcing) (b c : Seen) (h : Progress before taken rest accepted now b) where
       -- one record more was taken, and its lines given
@@ -360,7 +391,7 @@ module _ (entries : List NameEntry) (rules : List Rule) (first : Enforcing) (tra
     pub cut_memory : (before : Seen) (taken : List ℕ) (log : Enforcement) (b c : Seen)
         → Progress before taken log.intake.reader.rest log.intake.accepted log.enforcer b → log.intake.taken
         ≡ length taken
-        → LosesTurn log b c → LacksMemory setting before c
+        → LosesTurn log b c → StopsShort none_more setting before c
     cut_memory before taken log b c h count t = by t.told
       where
         reads : c.gate.read_faults ≡ before.gate.read_faults
@@ -372,7 +403,7 @@ module _ (entries : List NameEntry) (rules : List Rule) (first : Enforcing) (tra
         actions : SaysActions entries rules h.so_far.out before.report c.report
         actions = subst (SaysActions entries rules h.so_far.out before.report) (sym t.nothing.report) h.actions
 
-        by : (c.gate.told ≡ b.gate.told) ⊎ LosesBytes log.intake b.gate.told c.gate.told → LacksMemory setting before c
+        by : (c.gate.told ≡ b.gate.told) ⊎ LosesBytes log.intake b.gate.told c.gate.told → StopsShort none_more setting before c
         by (inl same) =
             lacks_all before c taken log.intake.reader.rest log.enforcer h.so_far
             (subst (λ (o : Option Exchange). Exchanged (UpToDate setting) taken (text_of (names_of entries) (out_steps h.so_far.out)) before.gate.told o) (sym same) h.far.exchanged)
@@ -385,6 +416,42 @@ module _ (entries : List NameEntry) (rules : List Rule) (first : Enforcing) (tra
             let exchanged = exchanged_more (UpToDate setting) before.gate taken given b.gate c.gate h.far
             (up_to_date taken log.intake.reader.rest log.enforcer h.so_far lost.pending) lost.bytes takes in
             lacks_all before c (taken ++ lost.bytes) rest log.enforcer read exchanged (inl (owed_so_far (taken ++ lost.bytes) rest log.enforcer read, reads)) writes actions
+
+    -- or since what the gate held back was not handed on
+    pub cut_holding : (before : Seen) (taken rest : List ℕ) (accepted : ℕ) (now : Enforcing) (b c : Seen)
+        → Progress before taken rest accepted now b → HoldsTurn b c → StopsShort one_more setting before c × (0 < c.gate.held)
+    cut_holding before taken rest accepted now b c h t = (
+      stops_all one_more before c taken rest h.so_far.read h.so_far.out (accepts taken rest now h.so_far)
+          (subst (λ (o : Option Exchange). Exchanged (UpToDate setting) taken (text_of (names_of entries) (out_steps h.so_far.out)) before.gate.told o) (sym t.told) h.far.exchanged)
+          (inl (owed_so_far taken rest now h.so_far, t.reads ∙ h.far.reads)) (t.writes ∙ ap one_more h.writes)
+          (subst (SaysActions entries rules h.so_far.out before.report) (sym t.report) h.actions),
+      t.held,
+    )
+
+    owed_at : (left : Bool) (records : List Record) (out : List ActedStep) → IsOwedAtEnd left setting records out → IsOwedSoFar setting records out ⊎ IsOwedInAll setting records out
+    owed_at true records out owed = inl owed
+    owed_at false records out owed = inr owed
+
+    -- the log ended, and then what the gate held back was not handed on
+    ran_held : (left : Bool) (judged : Judged) (enforcer : Enforcing) (faults : ℕ → ℕ) (before b : Seen) (c : Stream)
+        → RanSo left setting judged enforcer before b → c.told ≡ b.gate.told → c.read_faults ≡ b.gate.read_faults
+        → c.write_faults ≡ faults b.gate.write_faults → StopsShort faults setting before (seen_of c b.report)
+    ran_held left judged enforcer faults before b c x told reads writes =
+        let r = x.ran in
+        let a = r.answers in
+        let given = subst (λ (l : List ℕ). Exchanged (UpToDate setting) r.taken l before.gate.told b.gate.told) a.text r.exchanged in
+        stops_all faults before (seen_of c b.report) r.taken r.rest a.read a.out a.accepts
+        (subst (λ (o : Option Exchange). Exchanged (UpToDate setting) r.taken (text_of (names_of entries) (out_steps a.out)) before.gate.told o) (sym told) given)
+        (inr (
+          owed_at left (records_of a.read) a.out a.owed,
+          (judged.verdict, ends_handed (taken_log_of setting a.read r.taken r.rest) before.gate b.gate c told reads judged.verdict r.ends),
+        )) (writes ∙ ap faults r.writes) r.actions
+
+    pub ran_cut : (left : Bool) (judged : Judged) (enforcer : Enforcing) (before b : Seen) (c : Stream) → RanSo left setting judged enforcer before b
+        → (cut : Cut) → HandsOver {T = Unit {0}} (Err cut) b.gate c → CutsRun setting before (seen_of c b.report) cut
+    ran_cut left judged enforcer before b c x cuts.WriteFault h =
+        inr (inr (ran_held left judged enforcer one_more before b c x h.told h.reads h.writes, h.some_left))
+    ran_cut left judged enforcer before b c x cuts.NoMemory h = ran_held left judged enforcer none_more before b c x h.told h.reads h.writes
 
     module _ (before : Seen) (taken rest : List ℕ) (accepted : ℕ) (now : Enforcing) (verdict : Verdict) (b c : Seen) (e : Ended before taken rest accepted now verdict b) where
       abbrev judged : Judged
@@ -460,5 +527,5 @@ module _ (entries : List NameEntry) (rules : List Rule) (first : Enforcing) (tra
       cut_drain cuts.NoMemory (inr t) = cut_lines cuts.NoMemory t
       cut_drain cuts.NoMemory (inl same) =
           let h = e.so_far in
-          subst (LacksMemory setting before) (sym same)
+          subst (StopsShort none_more setting before) (sym same)
           (lacks_all before b taken rest now h e.ended.exchanged (inr (inl (owed_so_far taken rest now h), (verdict, e.ended.ends))) e.writes e.actions)

@@ -6,7 +6,7 @@ use Rattle.enf_run.proofs.Vocabulary.{IsNewLog, WritesNothing, reads_on, Enforce
 use Rattle.enf_run.proofs.IntakeLemmas.{far_ended}
 use Rattle.enf_run.proofs.LogLemmas.{item_time}
 use Rattle.enf_run.proofs.TakenLogLemmas.{HasTaken, taken_more, taken_one}
-use Rattle.enf_run.proofs.LogProgressLemmas.{Ended, MayRun, Progress, cut_memory, cut_taken, progress_more, progress_none, progress_one, setting, up_to_date}
+use Rattle.enf_run.proofs.LogProgressLemmas.{Ended, MayRun, Progress, cut_holding, cut_memory, cut_taken, progress_more, progress_none, progress_one, setting, up_to_date}
 use Rattle.enf_run.specs.declared.endings.Cut.TheVariants as cuts
 
 module _ (entries : List NameEntry) (rules : List Rule) (first : Enforcing) (trace : List Step) (laws : EnforcerLaws) (may : MayRun entries first) (built : HasPlans entries rules first) where
@@ -156,7 +156,9 @@ pub cut_run : (entries : List NameEntry) (rules : List Rule) (first : Enforcing)
     → log.intake.taken ≡ length taken → log.intake.accepted + length log.intake.reader.rest ≤
     log.intake.taken
     → (cut : Cut) → CutsTurn entries rules log b c cut → CutsRun (enforcer_setting entries rules first trace) before c cut
-cut_run entries rules first trace laws may built before taken log b c h count room cuts.WriteFault t =
+cut_run entries rules first trace laws may built before taken log b c h count room cuts.WriteFault (inl t) =
+    inr (inr (cut_holding entries rules first trace laws may built before taken log.intake.reader.rest log.intake.accepted log.enforcer b c h t))
+cut_run entries rules first trace laws may built before taken log b c h count room cuts.WriteFault (inr t) =
     cut_taken entries rules first trace laws may built before taken log.intake.reader.rest log.intake.accepted log.enforcer b c h cuts.WriteFault (omega (arith, room, count)) t
 cut_run entries rules first trace laws may built before taken log b c h count room cuts.NoMemory (inl t) = cut_memory entries rules first trace laws may built before taken log b c h count t
 cut_run entries rules first trace laws may built before taken log b c h count room cuts.NoMemory (inr t) =

@@ -1,16 +1,16 @@
 -- How a run ends, from how its parts end.
-use Rattle.enf_run.proofs.Vocabulary.{none_more, one_more, ◌≡◌, ℕ, ◌+◌, ◌≤◌, Bool, List, [], length, inl, inr, refl, sym, ap, subst, ◌∙◌, is_some, true, false, Option, None, Some, Result, Ok, Err}
-use Rattle.enf_run.proofs.Vocabulary.{OnePlans, ArePlanned, PendIsOne, SaveSetting as Bounds, Enforcing, KeptCanBeTakenUp, MOST_FILE_BYTES, Rule, NameEntry, Stream, IoRefusal, Call, LeavesFiles}
-use Rattle.enf_run.proofs.Vocabulary.{RunsCut, RunsRefused, RunsLogSo, RunsWhole, SavesState, SavesWhereAsked, WhereStood, WritesState, RanSo, conclusion_of, rest_left, HasPlans, BeginsLog, EndsStart}
-use Rattle.enf_run.proofs.Vocabulary.{typed_bounds, IsBounds, Seen, seen_of, saved_text, check_text, CheckLacks, CheckOutcome, CheckRefused, ending_after_file, CutsText, Concludes, WritesText}
-use Rattle.enf_run.proofs.Vocabulary.{faults_behind, all_formulas, States, records_of, EndsFile, HoldsPolicy, HoldsRefusedPolicy, HoldsRefusedSignature, HoldsSignature, CutsRun, TookLog, LogSetting}
-use Rattle.enf_run.proofs.Vocabulary.{enforced_from, AuditLacks, AuditOutcome, AuditRefused, AuditsLog, FindsVerdict, GivesNoVerdict, SaysVerdict, SaysVerdictInPart, GaveNothing, LosesLog, TakesTrace}
-use Rattle.enf_run.proofs.Vocabulary.{TakesWholeTrace, trace_log, verdict_line, DrillOutcome, AsksToEnforce, CutsLog, EnforceLacks, EnforceOutcome, EnforceRefused, EnforcesLog, FailsToWrite}
-use Rattle.enf_run.proofs.Vocabulary.{IsEnforceDone, PausesRun, WhereItStarts, WritesRun, GenerateOutcome, NoFormOutcome, NoFormRefused, RefusesWords, AsksUnderPolicy, MissesFile, RefusesPolicyFile}
-use Rattle.enf_run.proofs.Vocabulary.{RefusesSignatureFile, RunsOutBefore, CutsDrill, SaysDrillLine, generated_text, HasAudited, finish_after, Exchanged, LogEndsAs, input_log, taken_log, Audited}
-use Rattle.enf_run.proofs.Vocabulary.{Gave, VerdictIsOfPolicy, Holds, Fails, most_time, recorded, Inserted, refusal_status, RefusesRun, RunsOutOfMemory, RunsOutInLine, IsTyped, Typed, StoredTyped}
-use Rattle.enf_run.proofs.Vocabulary.{typed_of, NamesEnforce, IsAuditForm, IsCheckForm, IsDrillForm, IsEnforceForm, IsGenerateForm, Cut, Ending, FileEnding, Finish, Verdict, Enforcement}
-use Rattle.enf_run.proofs.Vocabulary.{PolicyRefusal, Refusal, SignatureRefusal, Status, AddsPart, AddsPartOrNothing, GivesCheckText, GivesFor, GivesLog, SaysDrillPartOrNothing}
+use Rattle.enf_run.proofs.Vocabulary.{Exchange, none_more, one_more, ◌≡◌, ℕ, ◌+◌, ◌<◌, ◌≤◌, Bool, List, [], length, inl, inr, refl, sym, ap, subst, ◌∙◌, is_some, true, false, Option, None, Some}
+use Rattle.enf_run.proofs.Vocabulary.{Result, Ok, Err, OnePlans, ArePlanned, PendIsOne, SaveSetting as Bounds, Enforcing, KeptCanBeTakenUp, MOST_FILE_BYTES, Rule, NameEntry, Stream, IoRefusal, Call}
+use Rattle.enf_run.proofs.Vocabulary.{LeavesFiles, RunsCut, RunsRefused, RunsLogSo, RunsWhole, SavesState, SavesWhereAsked, WhereStood, WritesState, RanSo, conclusion_of, rest_left, HasPlans}
+use Rattle.enf_run.proofs.Vocabulary.{BeginsLog, EndsStart, typed_bounds, IsBounds, Seen, seen_of, saved_text, check_text, CheckLacks, CheckOutcome, CheckRefused, ending_after_file, CutsText}
+use Rattle.enf_run.proofs.Vocabulary.{Concludes, WritesText, faults_behind, all_formulas, States, records_of, EndsFile, HoldsPolicy, HoldsRefusedPolicy, HoldsRefusedSignature, HoldsSignature, CutsRun}
+use Rattle.enf_run.proofs.Vocabulary.{TookLog, LogSetting, enforced_from, AuditLacks, AuditOutcome, AuditRefused, AuditsLog, FindsVerdict, GivesNoVerdict, SaysVerdict, SaysVerdictInPart, GaveNothing}
+use Rattle.enf_run.proofs.Vocabulary.{LosesLog, TakesTrace, TakesWholeTrace, trace_log, verdict_line, DrillOutcome, AsksToEnforce, CutsLog, EnforceLacks, EnforceOutcome, EnforceRefused, EnforcesLog}
+use Rattle.enf_run.proofs.Vocabulary.{FailsToWrite, IsEnforceDone, PausesRun, WhereItStarts, WritesRun, GenerateOutcome, NoFormOutcome, NoFormRefused, RefusesWords, AsksUnderPolicy, MissesFile}
+use Rattle.enf_run.proofs.Vocabulary.{RefusesPolicyFile, RefusesSignatureFile, RunsOutBefore, CutsDrill, SaysDrillLine, generated_text, HasAudited, finish_after, Exchanged, LogEndsAs, input_log}
+use Rattle.enf_run.proofs.Vocabulary.{taken_log, Audited, Gave, VerdictIsOfPolicy, Holds, Fails, most_time, recorded, Inserted, refusal_status, RefusesRun, RunsOutOfMemory, RunsOutInLine, IsTyped}
+use Rattle.enf_run.proofs.Vocabulary.{Typed, StoredTyped, typed_of, NamesEnforce, IsAuditForm, IsCheckForm, IsDrillForm, IsEnforceForm, IsGenerateForm, Cut, Ending, FileEnding, Finish, Verdict}
+use Rattle.enf_run.proofs.Vocabulary.{Enforcement, PolicyRefusal, Refusal, SignatureRefusal, Status, AddsOrHolds, AddsOrNothing, GivesCheckText, GivesFor, GivesLog, HandsOver, SaysDrillOrNothing}
 use Rattle.trace_audit.specs.declared.verdicts.Verdict.{Verdict as Found}
 use Rattle.enf_run.proofs.ReadyStateLemmas.{ready_behind}
 use Rattle.enf_run.proofs.SavedStateLemmas.{is_state_of}
@@ -432,13 +432,27 @@ module _ {Gate : Type 0} (call : Call Gate) (report : Stream) (signature_file po
       done_leads call (CheckOutcome call) report (GivesCheckText Gave none_more call) (λ o. o)
       (record { entries = entries; policy = policy; asks = asks_check; typed = typed; is_typed = is_typed; given = w.adds; writes = w.writes; reads = w.reads; files = same; silent = silent })
 
+  check_cut : (cut : Cut) → AddsOrHolds call.after.gate.held (check_text entries policy typed.ranked) call.before.gate.told call.after.gate.told
+      → call.after.gate.write_faults ≡ faults_behind cut call.before.gate.write_faults → call.after.gate.read_faults ≡ call.before.gate.read_faults
+      → CheckLeads call report (Err (endings.Cut cut))
+  check_cut cuts.WriteFault given writes reads =
+      fault_leads call (CheckOutcome call) report (GivesCheckText (AddsOrHolds call.after.gate.held) one_more call) (λ o. o)
+      (record { entries = entries; policy = policy; asks = asks_check; typed = typed; is_typed = is_typed; given = given; writes = writes; reads = reads; files = same; silent = silent })
+  check_cut cuts.NoMemory given writes reads =
+      check_lacks call report
+      (inr (record { entries = entries; policy = policy; asks = asks_check; typed = typed; is_typed = is_typed; given = given; writes = writes; reads = reads; files = same; silent = silent }))
+
   -- or a part of it
   pub check_ends : (cut : Cut) → WritesText {T = Unit {0}} (check_text entries policy typed.ranked) (Err cut) call.before.gate call.after.gate → CheckLeads call report (Err (endings.Cut cut))
-  check_ends cuts.WriteFault w =
-      fault_leads call (CheckOutcome call) report (GivesCheckText AddsPart one_more call) (λ o. o)
-      (record { entries = entries; policy = policy; asks = asks_check; typed = typed; is_typed = is_typed; given = w.adds; writes = w.writes; reads = w.reads; files = same; silent = silent })
-  check_ends cuts.NoMemory w =
-      check_lacks call report (inr (record { entries = entries; policy = policy; asks = asks_check; typed = typed; is_typed = is_typed; given = w.adds; writes = w.writes; reads = w.reads; files = same; silent = silent }))
+  check_ends cut w = check_cut cut (inl w.adds) w.writes w.reads
+
+  -- or some of it is held back
+  pub check_held : (cut : Cut) (between : Stream) → WritesText {T = Unit {0}} (check_text entries policy typed.ranked) (Ok tt) call.before.gate between
+      → HandsOver {T = Unit {0}} (Err cut) between call.after.gate → CheckLeads call report (Err (endings.Cut cut))
+  check_held cut between w h =
+      check_cut cut
+      (inr (subst (λ (o : Option Exchange). Gave (check_text entries policy typed.ranked) call.before.gate.told o) (sym h.told) w.adds, h.some_left))
+      (h.writes ∙ ap (faults_behind cut) w.writes) (h.reads ∙ w.reads)
 
 -- how an audit ends
 module _ {Gate : Type 0} (call : Call Gate) (report : Stream) (signature_file policy_file : List ℕ)
@@ -529,11 +543,26 @@ module _ {Gate : Type 0} (call : Call Gate) (report : Stream) (signature_file po
     -- or a part of it
     abbrev says_part : (cut : Cut) → WritesText {T = Unit {0}} (verdict_line policy audited.found) (Err cut) middle call.after.gate → SaysVerdictInPart (faults_behind cut) call report
     says_part cut w =
-        record { found = audited.found; finds = finds w.adds.front w.adds.gave w.reads; part = w.adds.part; writes = w.writes ∙ ap (faults_behind cut) writes }
+        record { found = audited.found; finds = finds w.adds.front w.adds.gave w.reads; part = inl w.adds.part; writes = w.writes ∙ ap (faults_behind cut) writes }
+
+    said_so : (cut : Cut) → SaysVerdictInPart (faults_behind cut) call report → AuditLeads call report (Err (endings.Cut cut))
+    said_so cuts.WriteFault says = fault_leads call (AuditOutcome call) report (SaysVerdictInPart one_more call) (λ o. o) says
+    said_so cuts.NoMemory says = audit_lacks call report (inr (inr says))
 
     pub audit_cut : (cut : Cut) → WritesText {T = Unit {0}} (verdict_line policy audited.found) (Err cut) middle call.after.gate → AuditLeads call report (Err (endings.Cut cut))
-    audit_cut cuts.WriteFault w = fault_leads call (AuditOutcome call) report (SaysVerdictInPart one_more call) (λ o. o) (says_part cuts.WriteFault w)
-    audit_cut cuts.NoMemory w = audit_lacks call report (inr (inr (says_part cuts.NoMemory w)))
+    audit_cut cut w = said_so cut (says_part cut w)
+
+    -- or some of it is held back
+    pub audit_held : (cut : Cut) (between : Stream) → WritesText {T = Unit {0}} (verdict_line policy audited.found) (Ok tt) middle between
+        → HandsOver {T = Unit {0}} (Err cut) between call.after.gate → AuditLeads call report (Err (endings.Cut cut))
+    audit_held cut between w h =
+        said_so cut (record {
+          found = audited.found;
+          finds = finds (verdict_line policy audited.found)
+              (subst (λ (o : Option Exchange). Gave (verdict_line policy audited.found) middle.told o) (sym h.told) w.adds) (h.reads ∙ w.reads);
+          part = inr (refl, h.some_left);
+          writes = h.writes ∙ ap (faults_behind cut) (w.writes ∙ writes);
+        })
 
 -- ---- what is generated
 
@@ -549,15 +578,28 @@ module _ {Gate : Type 0} (call : Call Gate) (report : Stream) (start steps : ℕ
       done_leads call (GenerateOutcome call) report (GivesFor IsGenerateForm (GivesLog Gave) none_more call) (λ o. o)
       (record { start = start; steps = steps; form = form; given = gave; writes = writes; reads = reads; files = same; silent = silent })
 
+  generate_part : (cut : Cut) → IsGenerateForm call.words start steps → AddsOrHolds call.after.gate.held (generated_text start steps) call.before.gate.told call.after.gate.told
+      → call.after.gate.write_faults ≡ faults_behind cut call.before.gate.write_faults → LeadsTo call (GenerateOutcome call) report (Err (endings.Cut cut))
+  generate_part cuts.WriteFault form part writes =
+      fault_leads call (GenerateOutcome call) report (GivesFor IsGenerateForm (GivesLog (AddsOrHolds call.after.gate.held)) one_more call) (λ o. o)
+      (record { start = start; steps = steps; form = form; given = part; writes = writes; reads = reads; files = same; silent = silent })
+  generate_part cuts.NoMemory form part writes =
+      lack_leads call (GenerateOutcome call) report (GivesFor IsGenerateForm (GivesLog (AddsOrNothing call.after.gate.held)) none_more call) (λ o. inl o)
+      (record { start = start; steps = steps; form = form; given = inl part; writes = writes; reads = reads; files = same; silent = silent })
+
   -- or its writing was cut
   pub generate_ends : (cut : Cut) → IsGenerateForm call.words start steps → CutsText (generated_text start steps) call.before.gate.told call.after.gate.told cut
       → call.after.gate.write_faults ≡ faults_behind cut call.before.gate.write_faults → LeadsTo call (GenerateOutcome call) report (Err (endings.Cut cut))
-  generate_ends cuts.WriteFault form part writes =
-      fault_leads call (GenerateOutcome call) report (GivesFor IsGenerateForm (GivesLog AddsPart) one_more call) (λ o. o)
-      (record { start = start; steps = steps; form = form; given = part; writes = writes; reads = reads; files = same; silent = silent })
-  generate_ends cuts.NoMemory form part writes =
-      lack_leads call (GenerateOutcome call) report (GivesFor IsGenerateForm (GivesLog AddsPartOrNothing) none_more call) (λ o. inl o)
-      (record { start = start; steps = steps; form = form; given = part; writes = writes; reads = reads; files = same; silent = silent })
+  generate_ends cuts.WriteFault form part writes = generate_part cuts.WriteFault form (inl part) writes
+  generate_ends cuts.NoMemory form (inl part) writes = generate_part cuts.NoMemory form (inl part) writes
+  generate_ends cuts.NoMemory form (inr none) writes =
+      lack_leads call (GenerateOutcome call) report (GivesFor IsGenerateForm (GivesLog (AddsOrNothing call.after.gate.held)) none_more call) (λ o. inl o)
+      (record { start = start; steps = steps; form = form; given = inr none; writes = writes; reads = reads; files = same; silent = silent })
+
+  -- or some of it is held back
+  pub generate_held : (cut : Cut) → IsGenerateForm call.words start steps → Gave (generated_text start steps) call.before.gate.told call.after.gate.told → 0 < call.after.gate.held
+      → call.after.gate.write_faults ≡ faults_behind cut call.before.gate.write_faults → LeadsTo call (GenerateOutcome call) report (Err (endings.Cut cut))
+  generate_held cut form gave held writes = generate_part cut form (inr (gave, held)) writes
 
   -- what was found was given whole
   pub drill_done : IsDrillForm call.words start steps → SaysDrillLine Gave start steps call.before.gate.told call.after.gate.told → call.after.gate.write_faults ≡ call.before.gate.write_faults
@@ -566,12 +608,25 @@ module _ {Gate : Type 0} (call : Call Gate) (report : Stream) (start steps : ℕ
       done_leads call (DrillOutcome call) report (GivesFor IsDrillForm (SaysDrillLine Gave) none_more call) (λ o. o)
       (record { start = start; steps = steps; form = form; given = gave; writes = writes; reads = reads; files = same; silent = silent })
 
+  drill_part : (cut : Cut) → IsDrillForm call.words start steps → SaysDrillLine (AddsOrHolds call.after.gate.held) start steps call.before.gate.told call.after.gate.told
+      → call.after.gate.write_faults ≡ faults_behind cut call.before.gate.write_faults → LeadsTo call (DrillOutcome call) report (Err (endings.Cut cut))
+  drill_part cuts.WriteFault form part writes =
+      fault_leads call (DrillOutcome call) report (GivesFor IsDrillForm (SaysDrillLine (AddsOrHolds call.after.gate.held)) one_more call) (λ o. o)
+      (record { start = start; steps = steps; form = form; given = part; writes = writes; reads = reads; files = same; silent = silent })
+  drill_part cuts.NoMemory form part writes =
+      lack_leads call (DrillOutcome call) report (GivesFor IsDrillForm (SaysDrillOrNothing call.after.gate.held) none_more call) (λ o. inl o)
+      (record { start = start; steps = steps; form = form; given = inl part; writes = writes; reads = reads; files = same; silent = silent })
+
   -- or the drill was cut
   pub drill_ends : (cut : Cut) → IsDrillForm call.words start steps → CutsDrill start steps call.before.gate.told call.after.gate.told cut
       → call.after.gate.write_faults ≡ faults_behind cut call.before.gate.write_faults → LeadsTo call (DrillOutcome call) report (Err (endings.Cut cut))
-  drill_ends cuts.WriteFault form part writes =
-      fault_leads call (DrillOutcome call) report (GivesFor IsDrillForm (SaysDrillLine AddsPart) one_more call) (λ o. o)
-      (record { start = start; steps = steps; form = form; given = part; writes = writes; reads = reads; files = same; silent = silent })
-  drill_ends cuts.NoMemory form part writes =
-      lack_leads call (DrillOutcome call) report (GivesFor IsDrillForm SaysDrillPartOrNothing none_more call) (λ o. inl o)
-      (record { start = start; steps = steps; form = form; given = part; writes = writes; reads = reads; files = same; silent = silent })
+  drill_ends cuts.WriteFault form part writes = drill_part cuts.WriteFault form (record { found = part.found; finds = part.finds; given = inl part.given }) writes
+  drill_ends cuts.NoMemory form (inl part) writes = drill_part cuts.NoMemory form (record { found = part.found; finds = part.finds; given = inl part.given }) writes
+  drill_ends cuts.NoMemory form (inr none) writes =
+      lack_leads call (DrillOutcome call) report (GivesFor IsDrillForm (SaysDrillOrNothing call.after.gate.held) none_more call) (λ o. inl o)
+      (record { start = start; steps = steps; form = form; given = inr none; writes = writes; reads = reads; files = same; silent = silent })
+
+  -- or some of what was found is held back
+  pub drill_held : (cut : Cut) → IsDrillForm call.words start steps → SaysDrillLine Gave start steps call.before.gate.told call.after.gate.told → 0 < call.after.gate.held
+      → call.after.gate.write_faults ≡ faults_behind cut call.before.gate.write_faults → LeadsTo call (DrillOutcome call) report (Err (endings.Cut cut))
+  drill_held cut form says held writes = drill_part cut form (record { found = says.found; finds = says.finds; given = inr (says.given, held) }) writes

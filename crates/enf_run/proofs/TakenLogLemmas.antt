@@ -2,7 +2,7 @@
 use Rattle.enf_run.proofs.Vocabulary.{◌≡◌, ℕ, ◌+◌, ◌-◌, ◌≤◌, Bool, true, false, List, [], ◌∷◌, ◌++◌, length, inl, inr, refl, sym, ap, subst, ◌∙◌, arith, length_push, map-append, one_more, Exchange}
 use Rattle.enf_run.proofs.Vocabulary.{Stream, Gave, ◌⊎◌, ActedStep, out_steps, Enforcing, acted_steps, Rule, text_of, behind_blanks, SpellsRecords-append, SpellsRecords-blanks, SpellsRecords-none}
 use Rattle.enf_run.proofs.Vocabulary.{SpellsRecords-push, Reader, LogItem, Input, entry_names as names_of, NameEntry, NeverFall, clock_after, Gains, Seen, action_lines, most_log_bytes, record_of}
-use Rattle.enf_run.proofs.Vocabulary.{records_of, Exchanged, EndsTurn, LosesBytes, TakesBytes, CutsSteps, AnyExchange, HasWriteFault, LostLog, TookLog, CutsDrain, CutsDrainLines, CutsTurn}
+use Rattle.enf_run.proofs.Vocabulary.{records_of, Exchanged, EndsTurn, LosesBytes, TakesBytes, CutsSteps, AnyExchange, HasWriteFault, LostLog, TookLog, CutsDrain, CutsDrainLines, CutsTurn, HoldsTurn}
 use Rattle.enf_run.proofs.Vocabulary.{EnforcesLater, EnforcesOne, GivesRest, IsNewLog, LosesTurn, LogMoment, WritesNothing, log_moment, AcceptsRecords, input_log, taken_log, Cut, Verdict, Enforcement}
 use Rattle.std.specs.Prelude.{Option}
 use Rattle.enf_run.proofs.AuditLemmas.{clock-push, never_fall-push}
@@ -28,13 +28,16 @@ pub record HasTaken (entries : List NameEntry) (clock : ℕ) (before : Seen) (ta
 module _ (entries : List NameEntry) (rules : List Rule) (before b c : Seen) (gate : b.gate.write_faults ≡ before.gate.write_faults) (report : b.report.write_faults ≡ before.report.write_faults) where
   gave_steps : (steps : List ActedStep) (cut : Cut) → CutsSteps entries rules steps cut b c → (bytes : List ℕ) × Gave bytes b.gate.told c.gate.told
   gave_steps steps cut (inl l) = (text_of (names_of entries) (out_steps l.whole) ++ l.front, l.gave)
-  gave_steps steps cut (inr a) = (text_of (names_of entries) (out_steps (a.first ++ a.last ∷ [])), a.lines.gave)
+  gave_steps steps cut (inr (inl a)) = (text_of (names_of entries) (out_steps (a.first ++ a.last ∷ [])), a.lines.gave)
+  gave_steps steps cut (inr (inr h)) = (text_of (names_of entries) (out_steps (h.first ++ h.last ∷ [])), h.gave)
 
   fault_steps : (steps : List ActedStep) (cut : Cut) → CutsSteps entries rules steps cut b c → HasWriteFault cut before c
   fault_steps steps cuts.WriteFault (inl l) = inl (l.writes ∙ ap one_more gate, l.actions.writes ∙ report)
   fault_steps steps cuts.NoMemory (inl l) = (l.writes ∙ gate, l.actions.writes ∙ report)
-  fault_steps steps cuts.WriteFault (inr a) = inr (a.lines.writes ∙ gate, a.writes ∙ ap one_more report)
-  fault_steps steps cuts.NoMemory (inr a) = (a.lines.writes ∙ gate, a.writes ∙ report)
+  fault_steps steps cuts.WriteFault (inr (inl a)) = inr (a.lines.writes ∙ gate, a.writes ∙ ap one_more report)
+  fault_steps steps cuts.WriteFault (inr (inr h)) = inl (h.writes ∙ ap one_more gate, h.actions.writes ∙ report)
+  fault_steps steps cuts.NoMemory (inr (inl a)) = (a.lines.writes ∙ gate, a.writes ∙ report)
+  fault_steps steps cuts.NoMemory (inr (inr h)) = (h.writes ∙ gate, h.actions.writes ∙ report)
 
 module _ (entries : List NameEntry) (rules : List Rule) (clock : ℕ) (before : Seen) where
   -- before any call
@@ -159,8 +162,24 @@ module _ (entries : List NameEntry) (rules : List Rule) (clock : ℕ) (before : 
               fault = fault;
             }
 
+    -- or what the gate held back was not handed on
+    lost_holding : HoldsTurn b c → Lost cuts.WriteFault
+    lost_holding t =
+        record {
+          log = record {
+            taken = taken;
+            given = h.given;
+            exchanged = subst (λ (o : Option Exchange). Exchanged AnyExchange taken h.given before.gate.told o) (sym t.told) h.far.exchanged;
+            read = h.read;
+            rest = old.intake.reader.rest;
+            accepts = h.accepts;
+          };
+          fault = inl (t.writes ∙ ap one_more h.writes, ap (λ (s : Stream). s.write_faults) t.report ∙ h.report.writes);
+        }
+
     pub lost_so : old.intake.taken ≡ length taken → (cut : Cut) → CutsTurn entries rules old b c cut → Lost cut
-    lost_so count cuts.WriteFault t = lost_steps (acted_steps t.answer.made.steps) cuts.WriteFault t.answer.given
+    lost_so count cuts.WriteFault (inl t) = lost_holding t
+    lost_so count cuts.WriteFault (inr t) = lost_steps (acted_steps t.answer.made.steps) cuts.WriteFault t.answer.given
     lost_so count cuts.NoMemory (inl t) = lost_turn count t
     lost_so count cuts.NoMemory (inr t) = lost_steps (acted_steps t.answer.made.steps) cuts.NoMemory t.answer.given
 

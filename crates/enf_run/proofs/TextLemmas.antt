@@ -1,6 +1,6 @@
 -- A text that is given in parts, one after the other.
-use Rattle.enf_run.proofs.Vocabulary.{◌≡◌, ℕ, ◌+◌, ◌<◌, List, [], ◌∷◌, ◌++◌, length, take, drop, get_or, refl, sym, ap, subst, ◌∙◌, append_assoc, Ok, Err, flat_map, append-nil, take-append-drop}
-use Rattle.enf_run.proofs.Vocabulary.{take_more, flat_map-append, Stream, WritesAll, written_before, WriteRefusal, cut_after, write_faults_behind, WritesText, Cut}
+use Rattle.enf_run.proofs.Vocabulary.{arith, ◌≡◌, ℕ, ◌+◌, ◌<◌, List, [], ◌∷◌, ◌++◌, length, take, drop, get_or, refl, sym, ap, subst, ◌∙◌, append_assoc, Ok, Err, flat_map, append-nil, take-append-drop}
+use Rattle.enf_run.proofs.Vocabulary.{Exchange, Gave, Option, take_more, flat_map-append, Stream, WritesAll, written_before, WriteRefusal, cut_after, write_faults_behind, WritesText, Cut}
 use Rattle.enf_run.proofs.CutLineLemmas.{part_none, part_take}
 use Rattle.enf_run.proofs.ExchangeLemmas.{gave_more, gave_none}
 use Rattle.enf_run.proofs.ReportLemmas.{cut_counts}
@@ -11,6 +11,10 @@ front_empty : (xs ys : List ℕ) → xs ++ ys ≡ [] → xs ≡ []
 front_empty [] ys e = refl
 front_empty (x ∷ xs) ys e = cc
 
+back_empty : (xs ys : List ℕ) → [] ≡ xs ++ ys → ys ≡ []
+back_empty [] ys e = sym e
+back_empty (x ∷ xs) ys e = cc
+
 -- a text was given whole, or cut
 abbrev pub Whole : List ℕ → Stream → Stream → Type 0
 Whole text before after = WritesText {T = Unit {0}} text (Ok tt) before after
@@ -20,11 +24,17 @@ Broken text cut before after = WritesText {T = Unit {0}} text (Err cut) before a
 
 -- of no text all is given
 pub whole_none : (a : Stream) → Whole [] a a
-whole_none a = record { adds = gave_none a.told; writes = refl; reads = refl }
+whole_none a = record { adds = gave_none a.told; writes = refl; reads = refl; late = refl }
+
+-- where a text was cut that is made of some things there is one of these
+pub some_cut : {A : Type 0} (f : A → List ℕ) (xs : List A) (cut : Cut) (a b : Stream) → Broken (flat_map f xs) cut a b
+    → 0 < length xs
+some_cut f [] cut a b w = absurd (w.adds.part.some (back_empty w.adds.front w.adds.part.rest w.adds.part.split))
+some_cut f (x ∷ xs) cut a b w = omega (arith)
 
 -- running out of memory came before any of it
 pub broken_at_once : (text : List ℕ) → 0 < length text → (a : Stream) → Broken text cuts.NoMemory a a
-broken_at_once text some a = record { adds = record { front = []; part = part_none text some; gave = gave_none a.told }; writes = refl; reads = refl }
+broken_at_once text some a = record { adds = record { front = []; part = part_none text some; gave = gave_none a.told }; writes = refl; reads = refl; late = refl }
 
 module _ (first rest : List ℕ) (a b : Stream) where
   -- a part of the first is a part of both
@@ -43,13 +53,14 @@ module _ (first rest : List ℕ) (a b : Stream) where
         };
         writes = w.writes;
         reads = w.reads;
+        late = w.late;
       }
 
   module _ (whole : Whole first a b) (c : Stream) where
     -- after the first the rest
     pub then_whole : Whole rest b c → Whole (first ++ rest) a c
     then_whole w =
-        record { adds = gave_more first rest a.told b.told c.told whole.adds w.adds; writes = w.writes ∙ whole.writes; reads = w.reads ∙ whole.reads }
+        record { adds = gave_more first rest a.told b.told c.told whole.adds w.adds; writes = w.writes ∙ whole.writes; reads = w.reads ∙ whole.reads; late = w.late ∙ whole.late }
 
     -- or a part of it
     pub then_cut : (cut : Cut) → Broken rest cut b c → Broken (first ++ rest) cut a c
@@ -67,6 +78,7 @@ module _ (first rest : List ℕ) (a b : Stream) where
           };
           writes = w.writes ∙ ap (write_faults_behind {T = Unit {0}} (Err cut)) whole.writes;
           reads = w.reads ∙ whole.reads;
+          late = w.late ∙ whole.late;
         }
 
 -- pieces one after another
@@ -93,4 +105,11 @@ written_cut bytes why a b w =
       adds = record { front = take (written_before why) bytes; part = part_take bytes (written_before why) w.not_whole; gave = w.part };
       writes = w.writes ∙ cut_counts (Unit {0}) (Unit {0}) why a.write_faults;
       reads = w.reads;
+      late = w.late;
     }
+
+-- a text that was given whole, and what the gate held back was handed on
+pub whole_handed : (text : List ℕ) (a b c : Stream) → Whole text a b → c.told ≡ b.told → c.write_faults ≡ b.write_faults → c.read_faults ≡ b.read_faults
+    → c.late_reads ≡ b.late_reads → Whole text a c
+whole_handed text a b c w told writes reads late =
+    record { adds = subst (λ (o : Option Exchange). Gave text a.told o) (sym told) w.adds; writes = writes ∙ w.writes; reads = reads ∙ w.reads; late = late ∙ w.late }

@@ -70,19 +70,19 @@ pub use Rattle.enf_run.specs.machine.AuditTurns.{AnswersAudit, AnswersAuditTurn,
 pub use Rattle.enf_run.specs.machine.AuditTurns.{TakesWholeTrace, WaitsAudit, finish_after}
 pub use Rattle.enf_run.specs.machine.CommandForms.{MatchNone, MatchesForm, NamesFiles, NamesFilesAlone, NamesResumed, states_of}
 pub use Rattle.enf_run.specs.machine.DrillRuns.{CutsDrill, FinishesDrill, IsNewDrill, SampleDrillFinds, TakesCounted, TallyAtMost, causes_in, guard_operators, suppressions_in, tally_with}
-pub use Rattle.enf_run.specs.machine.EnforceTurns.{AnswersTurn, CutsAnswer, CutsDrain, CutsDrainLines, CutsItem, CutsNext, CutsTaken, CutsTurn, EnforcesLater, EnforcesOne, GivesDrain, GivesRest}
-pub use Rattle.enf_run.specs.machine.EnforceTurns.{IsNewLog, LeavesItem, LogMoment, LosesTurn, TakesItem, WaitsForMore, WritesNothing, log_front, log_moment, reads_on}
+pub use Rattle.enf_run.specs.machine.EnforceTurns.{HoldsTurn, AnswersTurn, CutsAnswer, CutsDrain, CutsDrainLines, CutsItem, CutsNext, CutsTaken, CutsTurn, EnforcesLater, EnforcesOne, GivesDrain}
+pub use Rattle.enf_run.specs.machine.EnforceTurns.{GivesRest, IsNewLog, LeavesItem, LogMoment, LosesTurn, TakesItem, WaitsForMore, WritesNothing, log_front, log_moment, reads_on}
 pub use Rattle.enf_run.specs.machine.FileReads.{EndsFile, HoldsPolicy, HoldsRefusedPolicy, HoldsRefusedSignature, HoldsRefusedState, HoldsSignature, IsFileNotRead, IsLongFile, IsShortFile}
 pub use Rattle.enf_run.specs.machine.FormOutcomes.{AuditDue, AuditLacks, AuditOutcome, AuditRefused, CheckDue, CheckLacks, CheckOutcome, CheckRefused, DrillDue, DrillOutcome, EnforceDue, EnforceLacks}
 pub use Rattle.enf_run.specs.machine.FormOutcomes.{EnforceOutcome, EnforceRefused, FailsToWrite, GenerateDue, GenerateOutcome, IsBrokenOff, IsEnforceDone, NoFormDue, NoFormOutcome, NoFormRefused}
 pub use Rattle.enf_run.specs.machine.FormOutcomes.{rule_line}
-pub use Rattle.enf_run.specs.machine.LineCuts.{CutsActions, CutsLine, CutsSteps, GivesSteps, IsFrontOfActions, joined_texts}
-pub use Rattle.enf_run.specs.machine.LogIntake.{AnswersRead, AreInPieces, CountsRise, EndsIntake, EndsTurn, GetsPiece, IsNewIntake, IsStreamUntouched, LosesBytes, ReadMeetsEnd, RefusesNext}
-pub use Rattle.enf_run.specs.machine.LogIntake.{TakesBytes, TurnTakesPiece, reads_in}
+pub use Rattle.enf_run.specs.machine.LineCuts.{CutsActions, CutsHanding, CutsLine, CutsSteps, GivesSteps, IsFrontOfActions, joined_texts}
+pub use Rattle.enf_run.specs.machine.LogIntake.{CutsPiece, LosesPiece, takeable_bytes, AnswersRead, AreInPieces, CountsRise, EndsIntake, EndsTurn, GetsPiece, IsNewIntake, IsStreamUntouched}
+pub use Rattle.enf_run.specs.machine.LogIntake.{LosesBytes, ReadMeetsEnd, RefusesNext, TakesBytes, TurnTakesPiece, reads_in}
 pub use Rattle.enf_run.specs.machine.LogRunEnds.{EnforcerStandsBehind, HasPlans, IsOwedAtEnd, PausesLog, RanAsJudged, RanSo, RunsCut, RunsLog, RunsLogSo, RunsRefused, RunsWhole, SavesState}
 pub use Rattle.enf_run.specs.machine.LogRunEnds.{SavesWhereAsked, WhereStood, WritesState, conclusion_of, enforcer_setting, rest_left, taken_log_of}
 pub use Rattle.enf_run.specs.machine.LogStarts.{BeginsLog, EndsStart, typed_bounds}
-pub use Rattle.enf_run.specs.machine.RunEndings.{Concludes, CutsText, WritesText, cut_after, cut_after_file, ending_after_file, faults_behind, write_faults_behind}
+pub use Rattle.enf_run.specs.machine.RunEndings.{Concludes, CutsText, EndsRunWith, HandsOnWork, HandsOver, WritesText, cut_after, cut_after_file, ending_after_file, faults_behind, write_faults_behind}
 pub use Rattle.enf_run.specs.machine.TwoRunCalls.{CallsAreOne, GivesBoth, GoesOnFromSaved, PausesAreOne, SameSources, TakeTurns, TakesBoth, TakesLogs, TellsCall, TellsCalls, calls_of, given_of}
 pub use Rattle.enf_run.specs.machine.TwoRunCalls.{input_of, said_of, taken_of_call}
 pub use Rattle.enf_run.specs.machine.TwoRunHeadlines.{AreNumberedLines, IsLastBehind, KeptBehindSaved, SavedBehindSaved, SavedIsAsked, record_head, start_after}
@@ -92,18 +92,19 @@ pub use Rattle.enf_run.specs.meaning.Calls.{AreOfForm, Audit, Call, Check, Drill
 pub use Rattle.enf_run.specs.meaning.Calls.{LeavesGate, MatchNoForm, NamesEnforce, NoForm, devices_of, texts_of}
 pub use Rattle.enf_run.specs.meaning.EnforceOutcomes.{AsksToEnforce, AsksToEnforceSo, AsksToldEnforce, BreaksOffLog, CutsLog, EnforcesLog, IsEnforceable, MayStart, MissesState, PausesRun}
 pub use Rattle.enf_run.specs.meaning.EnforceOutcomes.{RefusesRecord, RefusesStateFile, TellsClock, WhereItStarts, WritesRun, comes_to}
+pub use Rattle.enf_run.specs.meaning.HandedOn.{HandsOnAll}
 pub use Rattle.enf_run.specs.meaning.Headline.{HasTakenLog, Headline, IsAnsweredLog, IsAskedRun, IsKeptAtSave, IsKeptSoFar, IsKeptToEnd, IsLineFront, IsReadyState, IsRestRefusedFor, IsStateText}
 pub use Rattle.enf_run.specs.meaning.Headline.{IsTakenToEnd, IsTransparentPolicy, LogEndsWithStatus, StartsAt, States, action_lines, all_formulas, most_log_bytes, option_words, record_of, records_of}
 pub use Rattle.enf_run.specs.meaning.Headline.{state_words, step_action_lines, text_of_log_refusal}
-pub use Rattle.enf_run.specs.meaning.LogRuns.{AnyExchange, CutsRun, FailsAtGate, FailsAtReport, Gains, HasWriteFault, IsCutLine, IsOwedWhere, LacksMemory, LostLog, RunsLogFor, RunsShort, SaysActions}
+pub use Rattle.enf_run.specs.meaning.LogRuns.{AnyExchange, CutsRun, FailsAtGate, FailsAtReport, Gains, HasWriteFault, IsCutLine, IsOwedWhere, StopsShort, LostLog, RunsLogFor, RunsShort, SaysActions}
 pub use Rattle.enf_run.specs.meaning.LogRuns.{SaysActionsInPart, Seen, TookLog, seen_of}
 pub use Rattle.enf_run.specs.meaning.Outcomes.{AsksToAudit, AuditsLog, ComesToStatus, DueOf, Dues, FindsVerdict, GaveNothing, GivesCheckText, GivesFor, GivesLog, GivesNoVerdict, IsAuditable}
 pub use Rattle.enf_run.specs.meaning.Outcomes.{OutcomeOf, RefusedOf, RefusesAudited, RefusesWords, RunOutcome, SaysVerdict, SaysVerdictInPart, check_text, horizon_line, mark_line, numbered_role_line}
 pub use Rattle.enf_run.specs.meaning.Outcomes.{role_line, role_lines, rule_lines, trace_log, verdict_line}
-pub use Rattle.enf_run.specs.meaning.Readings.{AcceptsRecords, Exchanged, IsExchange, IsFallingRecord, IsOwedInAll, IsOwedSoFar, IsReadBegun, IsRestRefusedAs, LogEndsAs, LogReading, LogSetting}
-pub use Rattle.enf_run.specs.meaning.Readings.{ReadsLogToEnd, TakenLog, UpToDate, clock_behind, enforced_from, input_log, most_read_bytes, policy_of, reading_of, taken_counts, taken_log}
-pub use Rattle.enf_run.specs.meaning.Reports.{AddsPart, AddsPartOrNothing, IsPart, IsReported, RefusesRun, RunsOutInLine, RunsOutOfMemory, SaysDrillLine, SaysDrillPartOrNothing, drill_line, is_system}
-pub use Rattle.enf_run.specs.meaning.Reports.{none_more, refusal_status, tally_of, text_of_record_refusal, text_of_refusal, text_of_signature}
+pub use Rattle.enf_run.specs.meaning.Readings.{ReadsLog, AcceptsRecords, Exchanged, IsExchange, IsFallingRecord, IsOwedInAll, IsOwedSoFar, IsReadBegun, IsRestRefusedAs, LogEndsAs, LogReading}
+pub use Rattle.enf_run.specs.meaning.Readings.{LogSetting, ReadsLogToEnd, TakenLog, UpToDate, clock_behind, enforced_from, input_log, most_read_bytes, policy_of, reading_of, taken_counts, taken_log}
+pub use Rattle.enf_run.specs.meaning.Reports.{AddsPart, AddsOrHolds, AddsOrNothing, IsPart, IsReported, RefusesRun, RunsOutInLine, RunsOutOfMemory, SaysDrillLine, SaysDrillOrNothing, drill_line}
+pub use Rattle.enf_run.specs.meaning.Reports.{is_system, none_more, refusal_status, tally_of, text_of_record_refusal, text_of_refusal, text_of_signature}
 pub use Rattle.enf_run.specs.meaning.Sources.{AreBytesHeld, AreBytesUnder, AsksPolicy, AsksRefusedFile, AsksRefusedPolicy, AsksRefusedSignature, FailsToRead, HoldsStart, HoldsState, IsBounds}
 pub use Rattle.enf_run.specs.meaning.Sources.{IsRefusedPolicy, IsRefusedSignature, IsRefusedState, IsStartOf, IsWholeLog, MeetsReadFault, MeetsRefusedRecord, MeetsWriteFault, MissesFile, ReadsPolicy}
 pub use Rattle.enf_run.specs.meaning.Sources.{RefusesPolicyFile, RefusesSignatureFile, RunsOutBefore, SpellsPolicy, SpellsRefusedPolicy, SpellsSignature, TellBytes, state_bounds, taken_between}

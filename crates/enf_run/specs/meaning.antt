@@ -1,3 +1,4 @@
+pub mod HandedOn
 pub mod Headline
 pub mod Sources
 pub mod EnforceOutcomes

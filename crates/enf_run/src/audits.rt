@@ -77,6 +77,9 @@ pub fn audit_log<G: Gate>(
     ensures few { IfOk result (λ audited. audited.judged.accepted < 2 ^ 63) }
     ensures lost { OnErr result (LosesLog signature.now (G.seen gate.old) (G.seen gate.new)) }
     ensures writes { (G.seen gate.new).write_faults ≡ (G.seen gate.old).write_faults }
+    ensures held { (G.seen gate.new).held ≡ (G.seen gate.old).held }
+    ensures late { (G.seen gate.old).held ≡ 0
+        → (G.seen gate.new).late_reads ≡ (G.seen gate.old).late_reads }
 {
     let mut audit = Audit::new(alloc, signature, policy)?;
     loop {
@@ -111,6 +114,9 @@ fn go_on<G: Gate>(
         audit.old audit.new (G.seen gate.old) (G.seen gate.new)) }
     ensures lost { OnErr result (LosesAuditTurn audit.old (G.seen gate.old) (G.seen gate.new)) }
     ensures writes { (G.seen gate.new).write_faults ≡ (G.seen gate.old).write_faults }
+    ensures held { (G.seen gate.new).held ≡ (G.seen gate.old).held }
+    ensures late { (G.seen gate.old).held ≡ 0
+        → (G.seen gate.new).late_reads ≡ (G.seen gate.old).late_reads }
 {
     match audit_next(alloc, audit)? {
         Next::Taken => {

@@ -24,6 +24,7 @@ pub fn give_log<S: Sink>(alloc: Global, start: u32, steps: u32, sink: &mut S) ->
     ensures writes { (S.seen sink.new).write_faults ≡
         write_faults_behind result (S.seen sink.old).write_faults }
     ensures reads { (S.seen sink.new).read_faults ≡ (S.seen sink.old).read_faults }
+    ensures late { (S.seen sink.new).late_reads ≡ (S.seen sink.old).late_reads }
 {
     let mut log = Generator::new(alloc, start, steps)?;
     let mut piece = Vec::new(alloc);

@@ -1,13 +1,15 @@
 //! The intake of a log: its bytes come from the gate piece by piece, and a verdict ends it.
-ghost use Rattle.std.specs.Prelude.{◌≡◌, ◌≢◌, IfOk, OnErr, None, length};
-ghost use Rattle.enf_run.specs.machine.LogIntake.{AnswersRead, IsIntakeOpen, IsNewIntake, JudgesLogEnd, LosesPiece};
-ghost use Rattle.enf_run.specs.machine.LogIntake.{ReadsPiece, takeable_bytes};
+ghost use Rattle.std.specs.Prelude.{◌≡◌, ◌≢◌, IfErr, IfOk, OnErr, OnOk, None, length};
+ghost use Rattle.enf_run.specs.machine.LogIntake.{AnswersRead, CutsPiece, IsIntakeOpen, IsNewIntake, JudgesLogEnd};
+ghost use Rattle.enf_run.specs.machine.LogIntake.{LosesPiece, ReadsPiece, takeable_bytes};
 ghost use Rattle.enf_run.specs.meaning.Readings.{most_read_bytes};
 ghost use Rattle.enf_run.specs.declared.refusals.RecordRefusal.TheVariants.{Log};
 ghost use Rattle.log_stream.specs.meaning.LogGrammar.{IsPending};
 ghost use Rattle.log_stream.specs.declared.items.LogRefusal.TheVariants.{NoMemory as OutOfMemory};
 
+use crate::endings::Cut;
 use crate::refusals::RecordRefusal;
+use crate::step_lines::hand_on;
 use enf_data::{Duplicate, NoMemory};
 use enf_io::devices::{Gate, IoRefusal};
 use log_stream::{LogMode, LogReader, LogRefusal};
@@ -19,6 +21,9 @@ pub const MOST_LOG_BYTES: usize = 1_099_511_627_776;
 
 /// The greatest number of bytes that one read asks for.
 pub const MOST_READ_BYTES: usize = 65_536;
+
+// So many bytes of a record that is not whole yet are counted where the next read asks for fewer.
+const MOST_COUNTED_BYTES: usize = 16_384;
 
 /// What becomes of a log.
 #[derive(Clone, Copy, Debug)]
@@ -84,6 +89,9 @@ impl Intake {
             (λ verdict. AnswersRead verdict self.old self.new (G.seen gate.old) (G.seen gate.new)) }
         ensures lost { OnErr result (LosesPiece (takeable_bytes self.old) (G.seen gate.old) (G.seen gate.new)) }
         ensures writes { (G.seen gate.new).write_faults ≡ (G.seen gate.old).write_faults }
+        ensures held { (G.seen gate.new).held ≡ (G.seen gate.old).held }
+        ensures late { (G.seen gate.old).held ≡ 0
+            → (G.seen gate.new).late_reads ≡ (G.seen gate.old).late_reads }
     {
         let left = MOST_LOG_BYTES - self.taken;
         match take_piece(gate, &mut self.piece, left, &mut self.reader)? {
@@ -95,6 +103,21 @@ impl Intake {
             Piece::Fault => Ok(Some(Verdict::Fault)),
             Piece::Limit => Ok(Some(Verdict::Refused(RecordRefusal::InputLimit))),
         }
+    }
+
+    /// Takes the next piece, once the gate holds nothing back of what it was given.
+    pub fn take_next<G: Gate>(&mut self, gate: &mut G) -> Result<Option<Verdict>, Cut>
+        requires pending { IsPending self.old.reader.rest }
+        requires going { IsIntakeOpen self.old }
+        ensures room { length self.new.piece.items ≡ most_read_bytes }
+        ensures turn { IfOk result
+            (λ verdict. AnswersRead verdict self.old self.new (G.seen gate.old) (G.seen gate.new)) }
+        ensures writes { OnOk result ((G.seen gate.new).write_faults ≡ (G.seen gate.old).write_faults) }
+        ensures cut { IfErr result (CutsPiece (takeable_bytes self.old) (G.seen gate.old) (G.seen gate.new)) }
+        ensures late { (G.seen gate.new).late_reads ≡ (G.seen gate.old).late_reads }
+    {
+        hand_on(gate)?;
+        Ok(self.take_more(gate)?)
     }
 }
 
@@ -111,11 +134,17 @@ fn take_piece<G: Gate>(
         (λ read. ReadsPiece read left reader.old reader.new (G.seen gate.old) (G.seen gate.new)) }
     ensures lost { OnErr result (LosesPiece left (G.seen gate.old) (G.seen gate.new)) }
     ensures writes { (G.seen gate.new).write_faults ≡ (G.seen gate.old).write_faults }
+    ensures held { (G.seen gate.new).held ≡ (G.seen gate.old).held }
+    ensures late { (G.seen gate.old).held ≡ 0
+        → (G.seen gate.new).late_reads ≡ (G.seen gate.old).late_reads }
 {
     if left == 0 {
         return Ok(Piece::Limit);
     }
-    let most = piece.len().min(left);
+    // With the record that is begun it is no more than a gate over std holds back, so that what is given for it goes out
+    // by one call, where its lines are no longer than what came.
+    let begun = reader.unread().min(MOST_COUNTED_BYTES);
+    let most = (piece.len() - begun).min(left);
     match gate.read(&mut piece[..most]) {
         Ok(0) => Ok(Piece::Ended),
         Ok(count) => {

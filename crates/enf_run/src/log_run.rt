@@ -27,7 +27,7 @@ ghost use Rattle.trace_meaning.specs.declared.kinds.StepKind.TheVariants.{System
 use crate::endings::Cut;
 use crate::intake::{Intake, Judged, Next, Verdict, refusal_of};
 use crate::refusals::RecordRefusal;
-use crate::step_lines::{Names, write_steps};
+use crate::step_lines::{Names, hand_on, write_steps};
 use enf_data::NoMemory;
 use enf_io::devices::{Gate, Sink};
 use enforce_types::TypedPolicy;
@@ -104,7 +104,8 @@ impl Enforcement {
 
 /// Takes the log from the gate, enforces its whole records from where the enforcer stands, and gives their lines and
 /// those of their actions, and at its end those of what is still owed; but where the state is to be saved at the end of
-/// the input, that is left to the run that resumes.
+/// the input, that is left to the run that resumes. At the end the gate holds nothing back. Where memory ran out it is
+/// flushed too, which no clause says: a flush may find none either.
 pub fn enforce_log<G: Gate, R: Sink>(
     alloc: Global,
     names: &Names<'_>,
@@ -129,6 +130,54 @@ pub fn enforce_log<G: Gate, R: Sink>(
         (seen_of (G.seen gate.old) (R.seen report.old)) (seen_of (G.seen gate.new) (R.seen report.new))) }
     ensures few { IfOk result (λ judged. judged.accepted < 2 ^ 63) }
     ensures goes_on { OnOk result (log.new.enforcer.stopped ≡ false) }
+    ensures late { (G.seen gate.new).late_reads ≡ (G.seen gate.old).late_reads }
+    ensures handed { OnOk result ((G.seen gate.new).held ≡ 0) }
+    ensures cut { (trace : List Step) →
+        HasPlans names.now.signature.now (policy_rules_of names.now.policy.now) log.old.enforcer →
+        Stands log.old.enforcer trace → IfErr result (CutsRun
+        (enforcer_setting names.now.signature.now (policy_rules_of names.now.policy.now) log.old.enforcer trace)
+        (seen_of (G.seen gate.old) (R.seen report.old)) (seen_of (G.seen gate.new) (R.seen report.new))) }
+{
+    enforcer_laws();
+    match enforce_records(alloc, names, saves, log, gate, report) {
+        Ok(judged) => {
+            hand_on(gate)?;
+            Ok(judged)
+        }
+        Err(Cut::NoMemory) => {
+            hand_on(gate)?;
+            Err(Cut::NoMemory)
+        }
+        Err(Cut::WriteFault) => Err(Cut::WriteFault),
+    }
+}
+
+// Takes the log, and gives what is owed to it, of which the gate may hold some back.
+fn enforce_records<G: Gate, R: Sink>(
+    alloc: Global,
+    names: &Names<'_>,
+    saves: bool,
+    log: &mut Enforcement,
+    gate: &mut G,
+    report: &mut R,
+) -> Result<Judged, Cut>
+    requires new { IsNewLog names.now.signature.now log.old }
+    requires permits { Permits (is_causable names.now.signature.now) (is_suppressible names.now.signature.now)
+        (enforcer_plans log.old.enforcer) }
+    requires together { WorkTogether (typed_of log.old.enforcer.policy) }
+    ensures ran { (trace : List Step) →
+        HasPlans names.now.signature.now (policy_rules_of names.now.policy.now) log.old.enforcer →
+        Stands log.old.enforcer trace → IfOk result (λ judged. RanAsJudged saves
+        (enforcer_setting names.now.signature.now (policy_rules_of names.now.policy.now) log.old.enforcer trace) judged
+        log.new.enforcer
+        (seen_of (G.seen gate.old) (R.seen report.old)) (seen_of (G.seen gate.new) (R.seen report.new))) }
+    ensures took { IfOk result (λ judged. TookLog (input_log names.now.signature.now log.old.enforcer.clock) judged
+        (seen_of (G.seen gate.old) (R.seen report.old)) (seen_of (G.seen gate.new) (R.seen report.new))) }
+    ensures lost { IfErr result (LostLog (input_log names.now.signature.now log.old.enforcer.clock)
+        (seen_of (G.seen gate.old) (R.seen report.old)) (seen_of (G.seen gate.new) (R.seen report.new))) }
+    ensures few { IfOk result (λ judged. judged.accepted < 2 ^ 63) }
+    ensures goes_on { OnOk result (log.new.enforcer.stopped ≡ false) }
+    ensures late { (G.seen gate.new).late_reads ≡ (G.seen gate.old).late_reads }
     ensures cut { (trace : List Step) →
         HasPlans names.now.signature.now (policy_rules_of names.now.policy.now) log.old.enforcer →
         Stands log.old.enforcer trace → IfErr result (CutsRun
@@ -179,7 +228,7 @@ fn leaves_rest(saves: bool, verdict: Verdict) -> bool
 }
 
 // Gives the lines of what is still owed at the end of the log, unless that is left.
-fn give_rest<G: Sink, R: Sink>(
+fn give_rest<G: Gate, R: Sink>(
     alloc: Global,
     names: &Names<'_>,
     left: bool,
@@ -194,6 +243,7 @@ fn give_rest<G: Sink, R: Sink>(
         (log_moment enforcer.old (seen_of (G.seen gate.old) (R.seen report.old)))
         (log_moment enforcer.new (seen_of (G.seen gate.new) (R.seen report.new)))) }
     ensures goes_on { OnOk result (enforcer.new.stopped ≡ false) }
+    ensures late { (G.seen gate.new).late_reads ≡ (G.seen gate.old).late_reads }
     ensures cut { IfErr result (CutsDrain names.now.signature.now (policy_rules_of names.now.policy.now)
         (log_moment enforcer.old (seen_of (G.seen gate.old) (R.seen report.old)))
         (seen_of (G.seen gate.new) (R.seen report.new))) }
@@ -206,7 +256,7 @@ fn give_rest<G: Sink, R: Sink>(
 
 // Gives the lines of all that is still owed at the end of the log.
 #[inline(never)]
-fn drain<G: Sink, R: Sink>(
+fn drain<G: Gate, R: Sink>(
     alloc: Global,
     names: &Names<'_>,
     enforcer: &mut Enforcer,
@@ -219,6 +269,7 @@ fn drain<G: Sink, R: Sink>(
         (log_moment enforcer.old (seen_of (G.seen gate.old) (R.seen report.old)))
         (log_moment enforcer.new (seen_of (G.seen gate.new) (R.seen report.new)))) }
     ensures goes_on { OnOk result (enforcer.new.stopped ≡ false) }
+    ensures late { (G.seen gate.new).late_reads ≡ (G.seen gate.old).late_reads }
     ensures cut { IfErr result (CutsDrain names.now.signature.now (policy_rules_of names.now.policy.now)
         (log_moment enforcer.old (seen_of (G.seen gate.old) (R.seen report.old)))
         (seen_of (G.seen gate.new) (R.seen report.new))) }
@@ -250,6 +301,7 @@ fn go_on<G: Gate, R: Sink>(
     ensures turn { IfOk result (λ verdict. AnswersTurn names.now.signature.now (policy_rules_of names.now.policy.now)
         verdict log.old log.new
         (seen_of (G.seen gate.old) (R.seen report.old)) (seen_of (G.seen gate.new) (R.seen report.new))) }
+    ensures late { (G.seen gate.new).late_reads ≡ (G.seen gate.old).late_reads }
     ensures cut { IfErr result (λ cut. CutsTurn names.now.signature.now (policy_rules_of names.now.policy.now) log.old
         (seen_of (G.seen gate.old) (R.seen report.old)) (seen_of (G.seen gate.new) (R.seen report.new)) cut) }
 {
@@ -267,12 +319,12 @@ fn go_on<G: Gate, R: Sink>(
             Ok(None)
         }
         Next::Refused(why) => Ok(Some(Verdict::Refused(why))),
-        Next::Pending => Ok(log.intake.take_more(gate)?),
+        Next::Pending => log.intake.take_next(gate),
     }
 }
 
 // Enforces the record at the front and gives its lines, where one is whole.
-fn enforce_next<G: Sink, R: Sink>(
+fn enforce_next<G: Gate, R: Sink>(
     alloc: Global,
     names: &Names<'_>,
     reader: &mut LogReader,
@@ -286,6 +338,7 @@ fn enforce_next<G: Sink, R: Sink>(
     ensures next { IfOk result (λ next. AnswersNext names.now.signature.now (policy_rules_of names.now.policy.now) next
         (log_front reader.old enforcer.old (seen_of (G.seen gate.old) (R.seen report.old)))
         (log_front reader.new enforcer.new (seen_of (G.seen gate.new) (R.seen report.new)))) }
+    ensures late { (G.seen gate.new).late_reads ≡ (G.seen gate.old).late_reads }
     ensures cut { IfErr result (CutsNext names.now.signature.now (policy_rules_of names.now.policy.now) reader.old.rest
         (log_moment enforcer.old (seen_of (G.seen gate.old) (R.seen report.old)))
         (seen_of (G.seen gate.new) (R.seen report.new))) }
@@ -303,7 +356,7 @@ fn enforce_next<G: Sink, R: Sink>(
 }
 
 // Enforces a record and gives its lines; one whose time is below the clock is refused.
-fn enforce_item<G: Sink, R: Sink>(
+fn enforce_item<G: Gate, R: Sink>(
     alloc: Global,
     names: &Names<'_>,
     reader: &mut LogReader,
@@ -319,6 +372,7 @@ fn enforce_item<G: Sink, R: Sink>(
         AnswersItem names.now.signature.now (policy_rules_of names.now.policy.now) (record_of item) refused
         (log_moment enforcer.old (seen_of (G.seen gate.old) (R.seen report.old)))
         (log_moment enforcer.new (seen_of (G.seen gate.new) (R.seen report.new)))) }
+    ensures late { (G.seen gate.new).late_reads ≡ (G.seen gate.old).late_reads }
     ensures cut { IfErr result (CutsItem names.now.signature.now (policy_rules_of names.now.policy.now) (record_of item)
         (log_moment enforcer.old (seen_of (G.seen gate.old) (R.seen report.old)))
         (seen_of (G.seen gate.new) (R.seen report.new))) }

@@ -8,13 +8,14 @@ ghost use Rattle.enf_run.specs.meaning.Calls.{call_of, devices_of, IsAuditForm, 
 ghost use Rattle.enf_run.specs.meaning.Calls.{IsEnforceForm, IsGenerateForm};
 ghost use Rattle.enf_run.specs.meaning.Outcomes.{Dues, RunOutcome};
 ghost use Rattle.enf_run.specs.machine.FileReads.{HoldsPolicy, HoldsSignature};
+ghost use Rattle.enf_run.specs.meaning.HandedOn.{HandsOnAll};
 ghost use Rattle.enf_run.specs.meaning.Headline.{Headline, all_formulas};
 ghost use Rattle.enf_run.specs.machine.CommandForms.{states_of};
 ghost use Rattle.enf_run.specs.machine.LogRunEnds.{conclusion_of, RunsLogSo};
 ghost use Rattle.enf_run.specs.machine.FormOutcomes.{AuditOutcome, CheckOutcome, DrillOutcome, EnforceOutcome};
 ghost use Rattle.enf_run.specs.machine.FormOutcomes.{GenerateOutcome};
 ghost use Rattle.enf_run.specs.machine.EnforceTurns.{IsNewLog};
-ghost use Rattle.enf_run.specs.machine.RunEndings.{Concludes};
+ghost use Rattle.enf_run.specs.machine.RunEndings.{Concludes, HandsOnWork};
 ghost use Rattle.enf_run.specs.meaning.LogRuns.{seen_of};
 ghost use Rattle.enf_run.specs.meaning.Sources.{SpellsSignature};
 ghost use Rattle.enf_run.specs.machine.LogStarts.{BeginsLog, EndsStart, typed_bounds};
@@ -40,7 +41,7 @@ use crate::log_run::{Enforcement, enforce_log};
 use crate::refusals::{Refusal, Status};
 use crate::report_lines::report_ending;
 use crate::saved_state::{Sources, save_where_asked};
-use crate::step_lines::Names;
+use crate::step_lines::{Names, hand_on};
 use crate::words::{Form, States, form_of};
 use enf_io::devices::{Files, Gate, Sink};
 use enforce_types::TypedPolicy;
@@ -77,6 +78,9 @@ pub fn run<G: Gate, F: Files, R: Sink>(
         (devices_of gate.old (G.seen gate.old) (F.seen files.old) (R.seen report.old))
         (devices_of gate.new (G.seen gate.new) (F.seen files.new) (R.seen report.new))) result }
 
+    // What is held back of what the gate was given, at each read and at the end.
+    ensures handed_on { HandsOnAll (G.seen gate.old) (G.seen gate.new) result }
+
     // What has become of a log that was enforced under an accepted policy, where the devices tell.
     ensures headline { Headline (map string_bytes words.now) (F.seen files.old) (F.seen files.new)
         (G.seen gate.old) (G.seen gate.new) (R.seen report.old) (R.seen report.new) result }
@@ -106,10 +110,11 @@ fn perform<G: Gate, F: Files, R: Sink>(
     files: &mut F,
     report: &mut R,
 ) -> Result<Finish, Ending>
-    ensures { (after : Stream) (status : Status) → Concludes result (R.seen report.new) after status →
+    ensures outcome { (after : Stream) (status : Status) → Concludes result (R.seen report.new) after status →
         RunOutcome (call_of words.now
         (devices_of gate.old (G.seen gate.old) (F.seen files.old) (R.seen report.old))
         (devices_of gate.new (G.seen gate.new) (F.seen files.new) after)) status }
+    ensures handed { HandsOnWork (G.seen gate.old) (G.seen gate.new) result }
 {
     match form_of(words) {
         Some(
@@ -141,7 +146,7 @@ fn enforce<G: Gate, F: Files, R: Sink>(
     files: &mut F,
     report: &mut R,
 ) -> Result<Finish, Ending>
-    ensures { (words : List (List ℕ)) (after : Stream) (status : Status) →
+    ensures outcome { (words : List (List ℕ)) (after : Stream) (status : Status) →
         IsEnforceForm (states_of (option_map (λ file. file.now) states.entry.resume)
         (option_map (λ file. file.now) states.entry.save)) words signature_file.now policy_file.now →
         Concludes result (R.seen report.new) after status → EnforceOutcome (record {
@@ -149,6 +154,7 @@ fn enforce<G: Gate, F: Files, R: Sink>(
           before = devices_of gate.old (G.seen gate.old) (F.seen files.old) (R.seen report.old);
           after = devices_of gate.new (G.seen gate.new) (F.seen files.new) after;
         }) status }
+    ensures handed { HandsOnWork (G.seen gate.old) (G.seen gate.new) result }
 {
     let read = read_signature(alloc, files, signature_file)?;
     let accepted = read_policy(alloc, files, policy_file, &read.signature)?;
@@ -178,7 +184,7 @@ fn enforce_accepted<G: Gate, F: Files, R: Sink>(
     requires typed { IsTyped names.now.signature.now (all_formulas (policy_rules_of names.now.policy.now))
         (typed_of typed) }
     requires kept { KeepsToSignature names.now.signature.now (typed_of typed).plans (typed_of typed).guards }
-    ensures { (words : List (List ℕ)) (signature policy : List ℕ) (after : Stream) (status : Status) →
+    ensures outcome { (words : List (List ℕ)) (signature policy : List ℕ) (after : Stream) (status : Status) →
         IsEnforceForm (states_of (option_map (λ file. file.now) states.entry.resume)
         (option_map (λ file. file.now) states.entry.save)) words signature policy →
         HoldsSignature (F.seen files.old).contents signature sources.entry.signature.now names.now.signature.now →
@@ -189,6 +195,7 @@ fn enforce_accepted<G: Gate, F: Files, R: Sink>(
           before = devices_of gate.old (G.seen gate.old) (F.seen files.old) (R.seen report.old);
           after = devices_of gate.new (G.seen gate.new) (F.seen files.new) after;
         }) status }
+    ensures handed { HandsOnWork (G.seen gate.old) (G.seen gate.new) result }
 {
     policy_has_one_answer();
     pending_is_one();
@@ -255,10 +262,12 @@ fn run_log<G: Gate, F: Files, R: Sink>(
     requires permits { Permits (is_causable names.now.signature.now) (is_suppressible names.now.signature.now)
         (enforcer_plans log.old.enforcer) }
     requires together { WorkTogether (typed_of log.old.enforcer.policy) }
-    ensures { RunsLogSo (option_map (λ file. file.now) save.entry) sources.entry.signature.now sources.entry.policy.now
-        names.now.signature.now (policy_rules_of names.now.policy.now) log.old.enforcer (F.seen files.old)
+    ensures ran { RunsLogSo (option_map (λ file. file.now) save.entry) sources.entry.signature.now
+        sources.entry.policy.now names.now.signature.now (policy_rules_of names.now.policy.now) log.old.enforcer
+        (F.seen files.old)
         (F.seen files.new)
         (seen_of (G.seen gate.old) (R.seen report.old)) (seen_of (G.seen gate.new) (R.seen report.new)) result }
+    ensures handed { HandsOnWork (G.seen gate.old) (G.seen gate.new) result }
 {
     let saves = save.is_some();
     let judged = enforce_log(alloc, names, saves, log, gate, report)?;
@@ -275,18 +284,20 @@ fn check<G: Gate, F: Files>(
     gate: &mut G,
     files: &mut F,
 ) -> Result<Finish, Ending>
-    ensures { (words : List (List ℕ)) (report after : Stream) (status : Status) →
+    ensures outcome { (words : List (List ℕ)) (report after : Stream) (status : Status) →
         IsCheckForm words signature_file.now policy_file.now →
         Concludes result report after status → CheckOutcome (record {
           words = words;
           before = devices_of gate.old (G.seen gate.old) (F.seen files.old) report;
           after = devices_of gate.new (G.seen gate.new) (F.seen files.new) after;
         }) status }
+    ensures handed { HandsOnWork (G.seen gate.old) (G.seen gate.new) result }
 {
     let read = read_signature(alloc, files, signature_file)?;
     let accepted = read_policy(alloc, files, policy_file, &read.signature)?;
     let rules = accepted.policy.rules.as_slice();
     give_check(alloc, &read.signature, rules, &accepted.typed, gate)?;
+    hand_on(gate)?;
     Ok(Finish::Done)
 }
 
@@ -298,13 +309,14 @@ fn audit<G: Gate, F: Files>(
     gate: &mut G,
     files: &mut F,
 ) -> Result<Finish, Ending>
-    ensures { (words : List (List ℕ)) (report after : Stream) (status : Status) →
+    ensures outcome { (words : List (List ℕ)) (report after : Stream) (status : Status) →
         IsAuditForm words signature_file.now policy_file.now →
         Concludes result report after status → AuditOutcome (record {
           words = words;
           before = devices_of gate.old (G.seen gate.old) (F.seen files.old) report;
           after = devices_of gate.new (G.seen gate.new) (F.seen files.new) after;
         }) status }
+    ensures handed { HandsOnWork (G.seen gate.old) (G.seen gate.new) result }
 {
     verdict_is_of_policy();
     let read = read_signature(alloc, files, signature_file)?;
@@ -312,6 +324,7 @@ fn audit<G: Gate, F: Files>(
     let audited = audit_log(alloc, &read.signature, &accepted.typed, gate)?;
     conclude(audited.judged)?;
     write_verdict(audited.found, &accepted.policy, gate)?;
+    hand_on(gate)?;
     Ok(finish_of(audited.found))
 }
 
@@ -319,14 +332,16 @@ fn audit<G: Gate, F: Files>(
 fn generate<G: Gate>(alloc: Global, start: u32, steps: u32, gate: &mut G) -> Result<Finish, Ending>
     requires start { start ≤ MOST_START }
     requires steps { steps ≤ MOST_STEPS }
-    ensures { (words : List (List ℕ)) (files : FileView) (report after : Stream) (status : Status) →
+    ensures outcome { (words : List (List ℕ)) (files : FileView) (report after : Stream) (status : Status) →
         IsGenerateForm words start steps → Concludes result report after status → GenerateOutcome (record {
           words = words;
           before = devices_of gate.old (G.seen gate.old) files report;
           after = devices_of gate.new (G.seen gate.new) files after;
         }) status }
+    ensures handed { HandsOnWork (G.seen gate.old) (G.seen gate.new) result }
 {
     give_log(alloc, start, steps, gate)?;
+    hand_on(gate)?;
     Ok(Finish::Done)
 }
 
@@ -334,14 +349,16 @@ fn generate<G: Gate>(alloc: Global, start: u32, steps: u32, gate: &mut G) -> Res
 fn drill<G: Gate>(alloc: Global, start: u32, steps: u32, gate: &mut G) -> Result<Finish, Ending>
     requires start { start ≤ MOST_START }
     requires steps { steps ≤ MOST_STEPS }
-    ensures { (words : List (List ℕ)) (files : FileView) (report after : Stream) (status : Status) →
+    ensures outcome { (words : List (List ℕ)) (files : FileView) (report after : Stream) (status : Status) →
         IsDrillForm words start steps → Concludes result report after status → DrillOutcome (record {
           words = words;
           before = devices_of gate.old (G.seen gate.old) files report;
           after = devices_of gate.new (G.seen gate.new) files after;
         }) status }
+    ensures handed { HandsOnWork (G.seen gate.old) (G.seen gate.new) result }
 {
     give_drill(alloc, start, steps, gate)?;
+    hand_on(gate)?;
     Ok(Finish::Done)
 }
 

@@ -1,5 +1,5 @@
 //! The canonical lines of steps, and those of their actions, and their way out.
-ghost use Rattle.std.specs.Prelude.{IfErr, OnOk};
+ghost use Rattle.std.specs.Prelude.{◌≡◌, ◌<◌, IfErr, OnErr, OnOk, length};
 ghost use Rattle.std.specs.List.{flat_map};
 ghost use Rattle.enforcer_core.specs.machine.MadeSteps.{acted_step, acted_steps};
 ghost use Rattle.choice_step.specs.meaning.ActedSteps.{out_step};
@@ -8,12 +8,12 @@ ghost use Rattle.formula_reader.specs.machine.StoredRules.{policy_rules_of};
 ghost use Rattle.log_stream.specs.meaning.LogGrammar.{line_of};
 ghost use Rattle.signature.specs.meaning.Grammar.{entry_names as names_of};
 ghost use Rattle.enf_run.specs.machine.LineCuts.{CutsSteps, GivesSteps};
-ghost use Rattle.enf_run.specs.machine.RunEndings.{WritesText};
+ghost use Rattle.enf_run.specs.machine.RunEndings.{HandsOver, WritesText, write_faults_behind};
 ghost use Rattle.enf_run.specs.meaning.LogRuns.{seen_of};
 
 use crate::endings::Cut;
 use action_report::write_action;
-use enf_io::devices::Sink;
+use enf_io::devices::{Gate, Sink};
 use enf_io::writing::write_all;
 use enforcer_core::steps::OutStep;
 use formula_reader::Policy;
@@ -29,9 +29,9 @@ pub struct Names<'a> {
 }
 
 /// Gives the line of each step to the gate, as one piece, and after it those of its actions to the report, each as one
-/// piece. They are made in `line`.
+/// piece. By then the gate holds nothing back. They are made in `line`.
 #[inline(always)]
-pub fn write_steps<G: Sink, R: Sink>(
+pub fn write_steps<G: Gate, R: Sink>(
     names: &Names<'_>,
     steps: &[OutStep],
     line: &mut Vec<u8>,
@@ -44,12 +44,37 @@ pub fn write_steps<G: Sink, R: Sink>(
     ensures cut { IfErr result (λ cut.
         CutsSteps names.now.signature.now (policy_rules_of names.now.policy.now) (acted_steps steps.now) cut
         (seen_of (G.seen gate.old) (R.seen report.old)) (seen_of (G.seen gate.new) (R.seen report.new))) }
+    ensures late { (G.seen gate.new).late_reads ≡ (G.seen gate.old).late_reads }
 {
     for step in steps {
         write_line(names.signature, step, line, gate)?;
+        hand_on_for(step.actions.as_slice(), gate)?;
         write_actions(names, step.actions.as_slice(), line, report)?;
     }
     Ok(())
+}
+
+// Hands on what the gate holds back, where lines of actions come next on the report.
+#[inline(always)]
+fn hand_on_for<G: Gate>(actions: &[Action], gate: &mut G) -> Result<(), Cut>
+    ensures told { (G.seen gate.new).told ≡ (G.seen gate.old).told }
+    ensures whole { OnOk result (0 < length actions.now → (G.seen gate.new).held ≡ 0) }
+    ensures held { OnErr result (0 < (G.seen gate.new).held) }
+    ensures writes { (G.seen gate.new).write_faults ≡ write_faults_behind result (G.seen gate.old).write_faults }
+    ensures reads { (G.seen gate.new).read_faults ≡ (G.seen gate.old).read_faults }
+    ensures late { (G.seen gate.new).late_reads ≡ (G.seen gate.old).late_reads }
+{
+    if actions.is_empty() {
+        return Ok(());
+    }
+    hand_on(gate)
+}
+
+/// Hands on what the gate holds back.
+pub fn hand_on<G: Gate>(gate: &mut G) -> Result<(), Cut>
+    ensures { HandsOver result (G.seen gate.old) (G.seen gate.new) }
+{
+    Ok(gate.flush()?)
 }
 
 #[inline(always)]

@@ -125,9 +125,74 @@ fn a_fault_says_how_much_went_out(rt: HostRuntime) {
 }
 
 fn write_twice(output: &mut Stutter, found: &mut Found) {
-    let mut gate = StdGate::new(b"".as_slice(), output);
+    let mut sink = StdSink::new(output);
+    found.written(write_all(&mut sink, b"@3 go();\n"));
+    found.written(write_all(&mut sink, b"o();\n"));
+}
+
+#[test]
+fn a_gate_over_std_holds_back_until_a_flush(rt: HostRuntime) {
+    let mut found = Found::new(rt.alloc());
+    let mut output = stutter_after(rt.alloc(), 2, ErrorKind::BrokenPipe);
+    flush_thrice(rt.alloc(), &mut output, &mut found);
+    found.bytes(&output.taken);
+    assert_eq!(rt;
+        found.text(),
+        b"all|all|failed|saved|saved|@3 go();\n@4;\n|".as_slice()
+    );
+}
+
+// What a flush that failed has left is handed on by the next one, once.
+fn flush_thrice(alloc: Global, output: &mut Stutter, found: &mut Found) {
+    let mut gate = StdGate::new(alloc, b"".as_slice(), output);
     found.written(write_all(&mut gate, b"@3 go();\n"));
-    found.written(write_all(&mut gate, b"o();\n"));
+    found.written(write_all(&mut gate, b"@4;\n"));
+    found.saved(gate.flush());
+    found.saved(gate.flush());
+    found.saved(gate.flush());
+}
+
+// Takes all that it is given, and counts its calls.
+#[derive(Drop)]
+struct Counting {
+    calls: u64,
+    bytes: u64,
+}
+
+impl Write for Counting {
+    fn write(&mut self, buf: &[u8]) -> io::Result<usize> {
+        self.calls = self.calls.saturating_add(1);
+        self.bytes = self.bytes.saturating_add(buf.len() as u64);
+        Ok(buf.len())
+    }
+
+    fn flush(&mut self) -> io::Result<()> {
+        Ok(())
+    }
+}
+
+#[test]
+fn a_full_gate_over_std_hands_on_in_few_calls(rt: HostRuntime) -> Result<(), Fail> {
+    let mut found = Found::new(rt.alloc());
+    let mut output = Counting { calls: 0, bytes: 0 };
+    fill_gate(rt.alloc(), &mut output, &mut found)?;
+    found.number(output.calls);
+    found.number(output.bytes);
+    assert_eq!(rt; found.text(), b"all|all|all|saved|all|3|160000|".as_slice());
+    Ok(())
+}
+
+// The third piece finds no room, and the last is longer than what may be held back.
+fn fill_gate(alloc: Global, output: &mut Counting, found: &mut Found) -> Result<(), Fail> {
+    let piece = vec![in alloc; b'a'; 30_000]?;
+    let long = vec![in alloc; b'a'; 70_000]?;
+    let mut gate = StdGate::new(alloc, b"".as_slice(), output);
+    for _ in 0..3 {
+        found.written(write_all(&mut gate, &piece));
+    }
+    found.saved(gate.flush());
+    found.written(write_all(&mut gate, &long));
+    Ok(())
 }
 
 #[test]
@@ -152,7 +217,7 @@ fn a_writer_that_takes_nothing_has_failed(rt: HostRuntime) {
 #[test]
 fn a_gate_over_std_reads_its_reader(rt: HostRuntime) {
     let mut found = Found::new(rt.alloc());
-    let mut gate = StdGate::new(b"@3;go()".as_slice(), io::empty());
+    let mut gate = StdGate::new(rt.alloc(), b"@3;go()".as_slice(), io::empty());
     read_all(&mut gate, &mut found);
     assert_eq!(rt; found.text(), b"@3;go(|)|||".as_slice());
 }

@@ -129,6 +129,13 @@ impl LogReader {
         Ok(())
     }
 
+    /// How many bytes were fed and are not read yet.
+    pub fn unread(&self) -> usize
+        ensures { result ≡ length self.now.rest }
+    {
+        self.bytes.len() - self.front
+    }
+
     /// The next record, or its refusal, which every later call answers again. Pending comes exactly where the bytes
     /// so far hold no whole record more and no refusal.
     pub fn next_record(&mut self, alloc: Global) -> Result<Found, LogRefusal>

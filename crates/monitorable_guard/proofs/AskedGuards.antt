@@ -2,12 +2,13 @@
 use Rattle.monitorable_guard.proofs.Vocabulary.{◌≡◌, ℕ, zero, suc, ◌+◌, ◌<◌, ◌⊎◌, inl, inr, ⊎_elim, List, [], ◌∷◌, ◌++◌, length, get_or, drop, Contains, ◌↔◌, sym, subst, arith, Bool, IsTrue, Result}
 use Rattle.monitorable_guard.proofs.Vocabulary.{Ok, Err, IfOk, among_or_not, Contains-append, Contains-append_left, Contains-append_right, Valuation, Event, VarId, Formula, IsFree, Relation}
 use Rattle.monitorable_guard.proofs.Vocabulary.{FitOperators, HoldsNow, outermost, FreeWithin, AreOpen, AreOpenUnder, CanEvaluate, HasAnswers, IsSolution, FirstHas, FirstGivesUnder, HasValuation}
-use Rattle.monitorable_guard.proofs.Vocabulary.{length-map, IsPartOfValuation, CanAskFormula, Safe}
+use Rattle.monitorable_guard.proofs.Vocabulary.{length-map, IsPartOfValuation, CanAskFormula, IsGuardAnswer, Safe}
 use Rattle.monitorable_guard.proofs.CycleLemmas.{fit_short}
 use Rattle.monitorable_guard.proofs.GuardLemmas.{can_ask}
 use Rattle.monitorable_guard.proofs.PartLemmas.{fresh_within}
 use Rattle.monitorable_guard.proofs.ReorderingLemmas.{first_at, alone_some}
 use Rattle.monitorable_guard.proofs.ReorderingParts.{part_free, part_fits, part_fresh, part_means}
+use Rattle.monitorable_guard.specs.machine.Answers.{HasAnswersIn}
 use Rattle.monitorable_guard.specs.machine.Evaluation.{FirstHasUnder}
 use Rattle.monitorable_guard.specs.machine.Reordering.{no_table, renumbered, IsReordered, only_formula}
 use Rattle.std.proofs.lemmas.List.{append-nil, get_or-map}
@@ -91,12 +92,23 @@ module _ (f asked : Formula) (numbers : List ℕ) (same : IsReordered (only_form
         holds = (asked_holds events tables u).1 is.holds;
       }
 
+      given_answer : (columns : List VarId) (w : Valuation) → IsGuardAnswer events (renumbered numbers tables) scope asked columns w ↔ IsGuardAnswer events tables scope f columns w
+      given_answer columns w = (λ found. (found.0, to_given found.0 found.1, found.2), λ some. (some.0, to_asked some.0 some.1, some.2))
+
       pub ok_given_rows : {E : Type 0} (r : Result Relation E) → IfOk r (HasAnswers events (renumbered numbers tables) scope asked) → IfOk r (HasAnswers events tables scope f)
       ok_given_rows (Ok t) answers = λ w. (
-        λ has. let found = (answers w).0 has in (found.0, to_given found.0 found.1, found.2),
-        λ some. (answers w).1 (some.0, to_asked some.0 some.1, some.2),
+        λ has. (given_answer t.columns w).0 ((answers w).0 has),
+        λ some. (answers w).1 ((given_answer t.columns w).1 some),
       )
       ok_given_rows (Err e) answers = tt
+
+      pub ok_given_in : {E : Type 0} (within : Relation) (r : Result Relation E) → IfOk r (HasAnswersIn within events (renumbered numbers tables) scope asked)
+          → IfOk r (HasAnswersIn within events tables scope f)
+      ok_given_in within (Ok t) answers = λ w. (
+        λ has. let both = (answers w).0 has in ((given_answer t.columns w).0 both.0, both.1),
+        λ both. (answers w).1 ((given_answer t.columns w).1 both.0, both.1),
+      )
+      ok_given_in within (Err e) answers = tt
 
       pub ok_given_holds : {E : Type 0} (r : Result Bool E) → IfOk r (λ b. IsTrue b ↔ HoldsNow events (renumbered numbers tables) scope asked) → IfOk r (λ b. IsTrue b ↔ HoldsNow events tables scope f)
       ok_given_holds (Ok b) told = (λ t. (asked_holds events tables scope).0 (told.0 t), λ holds. told.1 ((asked_holds events tables scope).1 holds))

@@ -4,10 +4,12 @@ use Rattle.monitorable_guard.proofs.Vocabulary.{Result, Ok, Err, IfOk, IsSome, I
 use Rattle.monitorable_guard.proofs.Vocabulary.{false≢true, eqb-true, drop-drop, take_more, Contains-append_left, Contains-append_right, Contains-push_cases, IfOk-weaker, Valuation, no_values}
 use Rattle.monitorable_guard.proofs.Vocabulary.{value_at, value_of_term, Event, Term, Var, Const, VarId, Value, all_from, here, none_in_nil, some_or_none, table_row-length, filled_from_row, Relation}
 use Rattle.monitorable_guard.proofs.Vocabulary.{IsTable, AddsRows, AmongRows, IsSolution, AreBoundOrFree, AreOpenUnder, CanAskFormula, RowsFitColumns, HasAnswers, IsGuardAnswer, IsBoundBy}
-use Rattle.monitorable_guard.proofs.Vocabulary.{FitOperators, HoldsNow, outermost, tables_beyond, Safe, FreeWithin, Assigns}
+use Rattle.monitorable_guard.proofs.Vocabulary.{FitOperators, HoldsNow, outermost, tables_beyond, Safe, FreeWithin, Assigns, HasValuation}
+use Rattle.monitorable_guard.proofs.AddedTables.{has_added}
 use Rattle.monitorable_guard.proofs.PartLemmas.{ask_nested}
 use Rattle.monitorable_guard.proofs.EvaluationLemmas.{bound_from, closed_to, closed_from, filled_binds, filled_binds_only, nested_same, not_bound}
 use Rattle.monitorable_guard.proofs.RowsLemmas.{adds_as}
+use Rattle.monitorable_guard.proofs.AddedTables as added
 use Rattle.valuations.specs.machine.Tables as tabled
 
 -- ---- rows made into a table
@@ -16,22 +18,14 @@ module _ (events : List Event) (tables : List Relation) (v : Valuation) (f : For
   pub open_scope : (columns : List VarId) → AreOpenUnder v f columns → AreBoundOrFree columns v f
   open_scope columns opens x there = inr ((opens.exact x).0 there).0
 
-  none_yet : (columns : List VarId) (w : Valuation) → AmongRows columns [] w → ⊥
-  none_yet columns w has = none_in_nil has.0 has.1
-
   pub added_fit : (columns : List VarId) (found : List (List Value)) → AddsRows columns [] found (IsGuardAnswer events tables v f columns) → RowsFitColumns columns found
-  added_fit columns found adds = adds.fit (all_from (λ row. length row ≡ length columns) [] (λ row there. absurd (none_in_nil row there)))
+  added_fit columns found adds = added.added_fit columns found (IsGuardAnswer events tables v f columns) adds
 
   module _ (columns : List VarId) (found : List (List Value)) (adds : AddsRows columns [] found (IsGuardAnswer events tables v f columns)) where
-    among_answers : (w : Valuation) → AmongRows columns found w ↔ IsGuardAnswer events tables v f columns w
-    among_answers w = (λ has. ⊎_elim (λ none. absurd (none_yet columns w none)) (λ answer. answer) (adds.only w has), λ answer. adds.added w answer)
-
     table_answers : (t : Relation) → t.columns ≡ columns → ((row : List Value) → Contains t.rows row ↔ Contains found row) → HasAnswers events tables v f t
-    table_answers t same rows w = (
-      λ has. subst (λ l. IsGuardAnswer events tables v f l w) (sym same) ((among_answers w).0 (has.0, (rows has.0).0 has.1, subst (λ l. tabled.AgreesWithRow w l has.0) same has.2)),
-      λ answer. let has = (among_answers w).1 (subst (λ l. IsGuardAnswer events tables v f l w) same answer) in
-          (has.0, (rows has.0).1 has.1, subst (λ l. tabled.AgreesWithRow w l has.0) (sym same) has.2),
-    )
+    table_answers t same rows w =
+        subst (λ l. HasValuation t w ↔ IsGuardAnswer events tables v f l w) (sym same)
+        (has_added columns found (IsGuardAnswer events tables v f columns) adds t same rows w)
 
     pub ok_answers : {E : Type 0} (r : Result Relation E) → IfOk r (λ t. t.columns ≡ columns) → IfOk r (λ t. (row : List Value) → Contains t.rows row ↔ Contains found row)
         → IfOk r (HasAnswers events tables v f)

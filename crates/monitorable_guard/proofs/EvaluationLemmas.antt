@@ -40,7 +40,7 @@ bound_or_not v x = ⊎_elim (λ some. inl (bound_from v x some.0 some.1)) (λ no
 pub not_bound : (v : Valuation) (x : VarId) → value_at v x ≡ None → IsBoundBy v x → ⊥
 not_bound v x none bound = let known = value_from v x bound in none-some known.0 (sym none ∙ known.1)
 
-absent_from : (v : Valuation) (x : VarId) → (IsBoundBy v x → ⊥) → value_at v x ≡ None
+pub absent_from : (v : Valuation) (x : VarId) → (IsBoundBy v x → ⊥) → value_at v x ≡ None
 absent_from v x unbound = ⊎_elim (λ bound. absurd (unbound bound)) (λ none. none) (bound_or_not v x)
 
 -- ---- valuations that are filled from rows

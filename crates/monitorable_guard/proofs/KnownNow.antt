@@ -5,12 +5,13 @@ use Rattle.monitorable_guard.proofs.Vocabulary.{Term, Var, Const, VarId, Value, 
 use Rattle.monitorable_guard.proofs.Vocabulary.{Since, Eventually, Always, Until, IsFree, Classically, AreSameValues-sym, here, later, first_or_later, none_in_nil, some_or_none, some_or_not}
 use Rattle.monitorable_guard.proofs.Vocabulary.{among_or_not, value_at-with_outside, cell_here, cell_later, table_row-length, contains_valuation, agrees_itself, same_value_or_not, same_at_or_not}
 use Rattle.monitorable_guard.proofs.Vocabulary.{same_or_other, IsPartOfValuation, Relation, IsTable, row_cell, AreOpenUnder, HasAnswers, FitOperators, HasKnownValues, IsKnownNow, IsTabled, Extends}
-use Rattle.monitorable_guard.proofs.Vocabulary.{HoldsNow, FirstHas, outermost, tables_beyond, Safe, BoundOrFreeIn, BindsFresh, IsArgument, IsFormulaConstant, IsBoundValue}
+use Rattle.monitorable_guard.proofs.Vocabulary.{HoldsNow, FirstHas, outermost, tables_beyond, Safe, BoundOrFreeIn, BindsFresh, IsArgument, IsFormulaConstant, IsBoundValue, HasValuation, IsGuardAnswer}
 use Rattle.monitorable_guard.proofs.AgreementLemmas.{fit_front, fit_back}
 use Rattle.monitorable_guard.proofs.Decided.{Decided, contains_decided, decided_as, decided_either, stable_from}
 use Rattle.monitorable_guard.proofs.EvaluationLemmas.{not_bound}
 use Rattle.monitorable_guard.proofs.KnownValues.{From, from_stable, among_arguments, assigned}
 use Rattle.monitorable_guard.proofs.SafetyLaws.{below_within, historically_within}
+use Rattle.monitorable_guard.specs.machine.Answers.{HasAnswersIn}
 
 -- a table after others is one of all
 pub tabled_behind : (n : ℕ) (tables : List Relation) (value : Value) → IsTabled (drop n tables) value → IsTabled tables value
@@ -141,11 +142,15 @@ column_of (column ∷ columns) (first ∷ row) value distinct long there = ⊎_e
 
 module _ (events : List Event) (tables : List Relation) (f : Formula) (bound : List VarId) (v scope : Valuation) (part : IsPartOfValuation v bound scope) (binds : BindsColumns v bound)
     (safe : Safe f (Contains bound)) (fresh : BindsFresh f (λ x. Contains bound x ⊎ IsFree x f)) (fit : FitOperators (outermost f) tables) where
-  known_values : (t : Relation) → IsTable t → AreOpenUnder scope f t.columns → HasAnswers events tables scope f t → HasKnownValues events tables f bound v t
-  known_values t table opens answers row there value in_row =
+  -- each valuation of the table answers the formula
+  abbrev HasSound : Relation → Type 0
+  HasSound t = (w : Valuation) → HasValuation t w → IsGuardAnswer events tables scope f t.columns w
+
+  known_values : (t : Relation) → IsTable t → AreOpenUnder scope f t.columns → HasSound t → HasKnownValues events tables f bound v t
+  known_values t table opens sound row there value in_row =
       let long = table_row-length t row table there in
       let column = column_of t.columns row value table.distinct long in_row in
-      let found = (answers (valuation_of t.columns row)).0 (contains_valuation t row table there) in
+      let found = sound (valuation_of t.columns row) (contains_valuation t row table there) in
       known_now (IsKnownNow events tables f bound v) (λ a. stable_from (IsKnownNow events tables f bound v a) (known_decided events tables f bound v a))
       events (λ a is. inl is) tables found.0 f (Contains bound) (λ x. Contains bound x ⊎ IsFree x f) safe fresh fit (λ x b. inl b) (λ x free. inr free)
       (λ a is. inr (inl is)) (λ a is. inr (inr (inl is)))
@@ -161,5 +166,10 @@ module _ (events : List Event) (tables : List Relation) (f : Formula) (bound : L
 
   pub ok_known : {E : Type 0} (r : Result Relation E) → IfOk r IsTable → IfOk r (λ t. AreOpenUnder scope f t.columns) → IfOk r (HasAnswers events tables scope f)
       → IfOk r (HasKnownValues events tables f bound v)
-  ok_known (Ok t) table opens answers = known_values t table opens answers
+  ok_known (Ok t) table opens answers = known_values t table opens (λ w has. (answers w).0 has)
   ok_known (Err e) table opens answers = tt
+
+  pub ok_known_in : {E : Type 0} (within : Relation) (r : Result Relation E) → IfOk r IsTable → IfOk r (λ t. AreOpenUnder scope f t.columns)
+      → IfOk r (HasAnswersIn within events tables scope f) → IfOk r (HasKnownValues events tables f bound v)
+  ok_known_in within (Ok t) table opens answers = known_values t table opens (λ w has. ((answers w).0 has).0)
+  ok_known_in within (Err e) table opens answers = tt

@@ -1,4 +1,5 @@
 pub mod Vocabulary
+pub mod AddedTables
 pub mod AgreementLemmas
 pub mod AnswerLemmas
 pub mod AskedGuards
@@ -33,3 +34,4 @@ pub mod SafetyLaws
 pub mod SafetyLemmas
 pub mod ScopeLemmas
 pub mod TurnLemmas
+pub mod WithinLemmas

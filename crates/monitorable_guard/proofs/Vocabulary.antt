@@ -58,7 +58,7 @@ pub use Rattle.enf_formula.specs.machine.FormulaShape.{BindsFresh, formula_size,
 pub use Rattle.enf_formula.specs.meaning.Satisfaction.{Always, And, AreFreeVariables, AreNumbersInOrder, AreSameValues, AtMost, Atom, Classically, Equal, Eventually, Exists, False, Forall, Formula}
 pub use Rattle.enf_formula.specs.meaning.Satisfaction.{HeldSince, Historically, HoldsAnywhere, Implies, IsEventAmong, IsFree, Less, Next, Not, Once, Or, Prev, Sat, Since, True, Until, elapsed}
 pub use Rattle.monitorable_guard.specs.machine.Answers.{AddsRows, AmongRows, AreBoundOrFree, AreOpenUnder, CanAskFormula, HasAnswers, IsBoundBy, IsBoundOrFree, IsEquated, IsFromRow, IsGuardAnswer}
-pub use Rattle.monitorable_guard.specs.machine.Answers.{IsMatchAmong, IsMatchOf, IsSolution, IsValued, RowsFitColumns}
+pub use Rattle.monitorable_guard.specs.machine.Answers.{IsMatchAmong, IsMatchOfName, IsMatchOf, IsSolution, IsValued, RowsFitColumns}
 pub use Rattle.monitorable_guard.specs.machine.Cases.{guard_case_y, three}
 pub use Rattle.monitorable_guard.specs.machine.Evaluation.{AreHoldingRows, AreOpen, CanEvaluate, FirstGivesUnder, FitOperators, HasKnownValues, IsKnownNow, IsTabled}
 pub use Rattle.monitorable_guard.specs.machine.EventOrder.{IsByName, arguments, event_cmp, key_of, listed, name_of, shown_events}

@@ -75,7 +75,7 @@ fn has_values<'a>(
 }
 
 // Adds the row of the valuation under which the terms have these values, where there is one.
-fn gather_match<'a>(
+pub fn gather_match<'a>(
     alloc: Global,
     terms: &[Term],
     values: &'a [Value],

@@ -7,7 +7,7 @@ ghost use Rattle.enf_data.specs.declared.values.Value.{Value as AnyValue};
 ghost use Rattle.valuations.specs.machine.Bindings.{bound_in, filled_from_row};
 ghost use Rattle.valuations.specs.machine.Tables.{IsTable};
 ghost use Rattle.monitorable_guard.specs.machine.Answers.{AddsRows, AreBoundOrFree, AreOpenUnder};
-ghost use Rattle.monitorable_guard.specs.machine.Answers.{CanAskFormula, HasAnswers, HasSolution};
+ghost use Rattle.monitorable_guard.specs.machine.Answers.{CanAskFormula, HasAnswers, HasAnswersIn, HasSolution};
 ghost use Rattle.monitorable_guard.specs.machine.Answers.{IsGuardAnswer, IsBoundBy};
 ghost use Rattle.monitorable_guard.specs.machine.PresentMeaning.{HoldsNow, tables_beyond};
 ghost use Rattle.monitorable_guard.specs.meaning.Safety.{FreeWithin};
@@ -82,6 +82,40 @@ pub fn rows_over<'a, P: Past>(
         scope,
         columns.as_slice(),
         closed,
+        &mut found,
+    )?;
+    Table::from_rows(columns, found)
+}
+
+// The table of those of them that are in another table, which has some of their columns: the formula is asked under
+// each row of that one.
+pub fn rows_in<'a, P: Past>(
+    alloc: Global,
+    present: &Present<'_, '_, '_, P>,
+    formula: &Formula,
+    within: &'a Table,
+    scope: &'a Frame<'a>,
+    columns: Vars,
+) -> Result<Table, NoMemory>
+    requires few { length (P.tables present.now.past.now) < 2 ^ 64 }
+    requires ask { CanAskFormula (bound_in scope.now) (P.tables present.now.past.now) (tree_of formula.now) }
+    requires open { AreOpenUnder (bound_in scope.now) (tree_of formula.now) columns }
+    requires table { IsTable within.now }
+    requires within { (x : Variable) → Contains within.now.columns x → Contains columns x }
+    ensures table { IfOk result IsTable }
+    ensures columns { IfOk result (λ t. AreOpenUnder (bound_in scope.now) (tree_of formula.now) t.columns) }
+    ensures rows { IfOk result (HasAnswersIn within.now present.now.events.now (P.tables present.now.past.now)
+        (bound_in scope.now) (tree_of formula.now)) }
+{
+    let mut found = Vec::new(alloc);
+    gather_under(
+        alloc,
+        present,
+        formula,
+        0,
+        within,
+        scope,
+        columns.as_slice(),
         &mut found,
     )?;
     Table::from_rows(columns, found)

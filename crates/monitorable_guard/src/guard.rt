@@ -1,9 +1,11 @@
 //! Guards: formulas that can be evaluated over finite tables, with the variables that are bound.
 ghost use Rattle.std.specs.Prelude.{◌≡◌, ◌↔◌, ◌⊎◌, List, IfOk, IfErr, IfSome, OnOk, IsTrue, Contains};
+ghost use Rattle.enf_data.specs.declared.terms.VarId.{VarId as AnyVariable};
 ghost use Rattle.enf_data.specs.meaning.Valuations.{Valuation as Bound};
 ghost use Rattle.valuations.specs.machine.Bindings.{bound_in};
 ghost use Rattle.valuations.specs.machine.Tables.{IsTable, Relation};
 ghost use Rattle.monitorable_guard.specs.machine.Evaluation.{AreOpen, CanEvaluate, HasKnownValues, AreHoldingRows};
+ghost use Rattle.monitorable_guard.specs.machine.Evaluation.{AreHoldingRowsIn, IsOpenIn};
 ghost use Rattle.enf_formula.specs.machine.FormulaViews.{tree_of};
 ghost use Rattle.enf_formula.specs.meaning.Satisfaction.{IsFree};
 ghost use Rattle.enf_formula.specs.machine.FormulaShape.{BindsFresh};
@@ -13,9 +15,10 @@ ghost use Rattle.monitorable_guard.specs.machine.Guards.{RefusesGuard};
 
 use crate::asked::Asked;
 use crate::conditions::{fits, is_fresh};
-use crate::evaluation::{Present, holds, rows_over};
+use crate::evaluation::{Present, holds, rows_in, rows_over};
 use crate::events::StepEvents;
 use crate::guard_rows::{Rows, are_variables, told};
+use crate::looks::{Look, add_looks};
 use crate::operators::{are_bound, open_beside};
 use crate::order::asked_under;
 use crate::past_tables::{Past, PastTables, Renumbered};
@@ -126,6 +129,16 @@ impl Guard {
         &self.columns
     }
 
+    /// Adds by which columns it looks for rows of its outermost operators on the past, where so many stand before them.
+    pub fn add_looks(
+        &self,
+        alloc: Global,
+        start: usize,
+        looks: &mut Vec<Look>,
+    ) -> Result<(), NoMemory> {
+        add_looks(alloc, &self.asked, self.bound.as_slice(), start, looks)
+    }
+
     /// Whether no quantifier of the formula binds a variable that is bound or free in it.
     pub fn is_fresh(&self, alloc: Global) -> Result<bool, NoMemory>
         ensures { IfOk result (λ fresh. IsTrue fresh ↔ BindsFresh (tree_of self.now.formula)
@@ -224,6 +237,48 @@ impl Guard {
         let present = Present { events, past };
         let columns = self.columns().duplicate(alloc)?;
         rows_over(alloc, &present, &self.asked.formula, 0, &scope, columns)
+    }
+
+    /// Those of the rows of the formula under a frame that are in a table of some of their columns: it is asked under
+    /// each row of this table.
+    pub fn evaluate_in<P: Past>(
+        &self,
+        alloc: Global,
+        events: &StepEvents<'_>,
+        past: &P,
+        v: &Frame<'_>,
+        within: &Table,
+    ) -> Result<Table, NoMemory>
+        requires can { CanEvaluate (tree_of self.now.formula) self.now.bound (P.tables past.now)
+            (bound_in v.now) }
+        requires table { IsTable within.now }
+        requires within { (x : AnyVariable) → Contains within.now.columns x
+            → IsOpenIn (tree_of self.now.formula) self.now.bound x }
+        ensures table { IfOk result IsTable }
+        ensures columns { IfOk result (λ t. AreOpen (tree_of self.now.formula) self.now.bound
+            t.columns) }
+        ensures rows { IfOk result (AreHoldingRowsIn within.now events.now (P.tables past.now)
+            (tree_of self.now.formula) self.now.bound (bound_in v.now)) }
+        ensures known { IfOk result (HasKnownValues events.now (P.tables past.now)
+            (tree_of self.now.formula) self.now.bound (bound_in v.now)) }
+    {
+        let scope = Frame::Part(v, self.bound().as_slice());
+        let past = &Renumbered {
+            past,
+            numbers: self.asked.numbers.as_slice(),
+        };
+        // so many that a usize counts them
+        let _tables = past.count();
+        let present = Present { events, past };
+        let columns = self.columns().duplicate(alloc)?;
+        rows_in(
+            alloc,
+            &present,
+            &self.asked.formula,
+            within,
+            &scope,
+            columns,
+        )
     }
 
     /// The rows of the formula under a frame, where the arguments of the events of an atom stay where they are, if

@@ -1,11 +1,11 @@
 -- What is put last by the parts of a plan is what its whole puts last.
 use Rattle.obligations.proofs.Vocabulary.{◌≡◌, ℕ, zero, suc, ◌+◌, ◌<◌, Bool, true, false, List, [], ◌∷◌, ◌++◌, length, take, Contains, Option, refl, sym, ap, subst, arith, inl, inr, ◌∙◌, append_assoc}
 use Rattle.obligations.proofs.Vocabulary.{get_or, true≢false, IsFalse, option_to_list, append-nil, here, later, Valuation, values_of_terms, with_values, BindsColumns, Event, NameId, Step, Term, VarId}
-use Rattle.obligations.proofs.Vocabulary.{Value, Formula, AreNewVariables, AreOpen, FreeWithin, AreEvaluated, HasOpenColumns, IsEvaluated, Plan, CausePlan, SuppressPlan, Either, TestOr, Guarded}
-use Rattle.obligations.proofs.Vocabulary.{UntilPlan, filled_from_row, IsTable, Relation, AddsList, TellsNothing, IsNowOf, CanAskPlan, CanAskIn, IsGuardAt, FitsScope, guards_at, LiteralUnless, Missing}
-use Rattle.obligations.proofs.Vocabulary.{HasSome, MissesEither, OfEvent, cause_literal, suppress_literal, Gathers, Literal, Now}
+use Rattle.obligations.proofs.Vocabulary.{Value, Formula, AreNewVariables, AreOpen, FreeWithin, HasOpenColumns, IsEvaluated, Plan, CausePlan, SuppressPlan, Either, TestOr, UntilPlan, filled_from_row}
+use Rattle.obligations.proofs.Vocabulary.{IsTable, Relation, AddsList, TellsNothing, IsNowOf, CanAskPlan, CanAskIn, IsGuardAt, FitsScope, guards_at, LiteralUnless, Missing, HasSome, MissesEither}
+use Rattle.obligations.proofs.Vocabulary.{OfEvent, cause_literal, suppress_literal, Gathers, Literal, Now}
 use Rattle.std.specs.Prelude.{IsTrue}
-use Rattle.obligations.proofs.AskablePlanLemmas.{filled_is, row_fits, rows_are, same_columns, test_is, under_row}
+use Rattle.obligations.proofs.AskablePlanLemmas.{filled_is, row_fits, same_columns, test_is, under_row}
 
 module _ {X : Type 0} (now : Now) where
   -- nothing is put last
@@ -139,12 +139,11 @@ module _ (now : Now) (v : Valuation) where
 -- under each row
 module _ (now : Now) (n : ℕ) (f : Formula) (scope xs : List VarId) (at : IsGuardAt (guards_at now.tables.now) n f scope)
     (opening : AreOpen f scope xs) (new : AreNewVariables scope xs) (v : Valuation) (fit : FitsScope scope v) (t : Relation)
-    (table : IsTable t) (columns : HasOpenColumns now.tables.now n t)
-    (evaluated : AreEvaluated now.tables.now n now.ordered.now v t) where
+    (table : IsTable t) (columns : HasOpenColumns now.tables.now n t) where
   -- the values of a row of the table are those of the variables
-  pub row_is : (row : List Value) → Contains t.rows row → filled_from_row v t.columns row ≡ with_values xs row v
-  row_is row there =
-      ap (λ columns. filled_from_row v columns row) (same_columns now n f scope xs at opening new v fit t table columns evaluated)
+  pub row_is : (row : List Value) → filled_from_row v t.columns row ≡ with_values xs row v
+  row_is row =
+      ap (λ columns. filled_from_row v columns row) (same_columns now n f scope xs at opening new v fit t table columns)
       ∙ filled_is scope xs new v fit row
 
   pub body_can : (guards : List (Formula × List VarId)) (body : Plan) → CanAskIn guards body (scope ++ xs)
@@ -152,19 +151,6 @@ module _ (now : Now) (n : ℕ) (f : Formula) (scope xs : List VarId) (at : IsGua
   body_can guards body can row there = record {
     scope = scope ++ xs;
     can = can;
-    fits = subst (FitsScope (scope ++ xs)) (sym (row_is row there))
-        (under_row scope xs new v fit row (row_fits now n f scope xs at opening new v fit t table columns evaluated row there));
+    fits = subst (FitsScope (scope ++ xs)) (sym (row_is row))
+        (under_row scope xs new v fit row (row_fits now n f scope xs at opening new v fit t table columns row there));
   }
-
-  pub rows_listed : (node : ℕ) (body : Plan) (before after : List Literal)
-      → AddsList now (λ trace. Gathers (λ row. Missing trace body (filled_from_row v t.columns row)) t.rows) before after
-      → AddsList now (λ trace. Missing trace (Guarded node xs n f body) v) before after
-  rows_listed node body before after adds =
-      adds_as now (λ trace. Gathers (λ row. Missing trace body (filled_from_row v t.columns row)) t.rows)
-      (λ trace. Missing trace (Guarded node xs n f body) v) before after
-      (λ trace is ls gathered. (
-        t.rows,
-        rows_are now n f scope xs at opening new v fit t table columns evaluated trace is,
-        gathers_as (λ row. Missing trace body (filled_from_row v t.columns row)) (λ row. Missing trace body (with_values xs row v)) t.rows ls
-            (λ row there ys missing. subst (λ w. Missing trace body w ys) (row_is row there) missing) gathered,
-      )) adds

@@ -2,10 +2,10 @@
 use Rattle.obligations.proofs.Vocabulary.{◌≡◌, ℕ, zero, suc, ◌<◌, List, [], ◌∷◌, ◌++◌, length, map, Contains, None, Some, IsTrue, refl, sym, ap, subst, arith, ⊎_elim, ◌∙◌, ◌↔◌, slice_get, IsSome}
 use Rattle.obligations.proofs.Vocabulary.{Contains-append_left, Contains-append_right, same_Some, none-some, AllByRecursion-contains, Contains-append, HasNoRepeats, rising_behind, rising_distinct}
 use Rattle.obligations.proofs.Vocabulary.{same_rising, Valuation, value_at, variable_cmp, with_values, BindsColumns, variable_cmp_total, Step, Term, Var, VarId, Value, some_value, Formula, IsFree}
-use Rattle.obligations.proofs.Vocabulary.{AreTermsInScope, AreNewVariables, IsTermInScope, new_apart, AreOpen, AreHoldingRows, HoldsNow, AreEvaluated, IsEvaluated, BindsBound, HasOpenColumns, IsGuard}
-use Rattle.obligations.proofs.Vocabulary.{IsTestOf, PastTables, guard_formula, tables_of, PlacedGuard, among_or_not, agrees_once, cell_some, table_row-length, value_at-with_inside}
-use Rattle.obligations.proofs.Vocabulary.{value_at-with_outside, filled_fresh, filled_from_row, AgreeOnColumns, AgreesWithRow, HasValuation, IsTable, Relation, FitsScope, IsGuardAt, IsNowOf}
-use Rattle.obligations.proofs.Vocabulary.{placed_guard, guards_at, AreGuardRows, HoldsLast, Now}
+use Rattle.obligations.proofs.Vocabulary.{AreTermsInScope, AreNewVariables, IsTermInScope, new_apart, AreOpen, HoldsNow, AreEvaluated, IsEvaluated, BindsBound, HasOpenColumns, IsGuard, IsTestOf}
+use Rattle.obligations.proofs.Vocabulary.{PastTables, guard_formula, tables_of, PlacedGuard, among_or_not, agrees_once, cell_some, table_row-length, value_at-with_inside, value_at-with_outside}
+use Rattle.obligations.proofs.Vocabulary.{filled_fresh, filled_from_row, AgreeOnColumns, AgreesWithRow, HasValuation, IsTable, Relation, FitsScope, IsGuardAt, IsNowOf, placed_guard, guards_at}
+use Rattle.obligations.proofs.Vocabulary.{AreGuardRows, HoldsLast, Now}
 use Rattle.std.specs.Prelude.{Bool}
 
 -- ---- a guard at its number
@@ -77,10 +77,17 @@ module _ (scope xs : List VarId) (new : AreNewVariables scope xs) (v : Valuation
 
 -- ---- the rows of a table
 
+-- for each valuation of the table the guard holds by its tables
+abbrev pub HoldFor : Now → ℕ → Valuation → Relation → Type 0
+HoldFor now n v t = (g : PlacedGuard) → IsGuard now.tables.now.guards n g → (w : Valuation) → AgreeOnColumns g.guard.bound v w
+    → BindsColumns w t.columns → HasValuation t w → HoldsNow now.ordered.now (tables_of g now.tables.now) w (guard_formula g)
+
+pub hold_for : (now : Now) (n : ℕ) (v : Valuation) (t : Relation) → AreEvaluated now.tables.now n now.ordered.now v t → HoldFor now n v t
+hold_for now n v t evaluated g found w agree binds has = (evaluated g found w agree binds).0 has
+
 module _ (now : Now) (n : ℕ) (f : Formula) (scope xs : List VarId) (at : IsGuardAt (guards_at now.tables.now) n f scope)
     (opening : AreOpen f scope xs) (new : AreNewVariables scope xs) (v : Valuation) (fit : FitsScope scope v) (t : Relation)
-    (table : IsTable t) (columns : HasOpenColumns now.tables.now n t)
-    (evaluated : AreEvaluated now.tables.now n now.ordered.now v t) where
+    (table : IsTable t) (columns : HasOpenColumns now.tables.now n t) where
   abbrev g : PlacedGuard
   g = (the_guard now.tables.now n f scope at).0
 
@@ -102,33 +109,33 @@ module _ (now : Now) (n : ℕ) (f : Formula) (scope xs : List VarId) (at : IsGua
       (λ z there. (opening.exact z).1 ((opens.exact z).0 there))
       (λ z there. (opens.exact z).1 ((opening.exact z).0 there))
 
-  same_table : t ≡ record { columns = xs; rows = t.rows }
-  same_table = ap (λ c. record { columns = c; rows = t.rows }) same_columns
-
   pub is_table : IsTable (record { columns = xs; rows = t.rows })
-  is_table = subst IsTable same_table table
+  is_table = subst IsTable (ap (λ c. record { columns = c; rows = t.rows }) same_columns) table
 
-  holds_for : AreHoldingRows now.ordered.now (tables_of g now.tables.now) (guard_formula g) scope v (record { columns = xs; rows = t.rows })
-  holds_for = subst (λ u. AreHoldingRows now.ordered.now (tables_of g now.tables.now) (guard_formula g) scope v u) same_table
-      (subst (λ b. AreHoldingRows now.ordered.now (tables_of g now.tables.now) (guard_formula g) b v t) bound_is (evaluated g found))
-
-  -- each row of the table is ps long ps the variables
+  -- each row of the table is as long as the variables
   pub row_fits : (row : List Value) → Contains t.rows row → length row ≡ length xs
   row_fits row there = table_row-length (record { columns = xs; rows = t.rows }) row is_table there
 
-  -- for each row of the table the guard holds by its tables
-  pub row_holds : (row : List Value) → Contains t.rows row → (tables : List Relation) × HoldsNow now.ordered.now tables (with_values xs row v) f
-  row_holds row there =
-      let long = row_fits row there in (
-        tables_of g now.tables.now,
-        subst (HoldsNow now.ordered.now (tables_of g now.tables.now) (with_values xs row v)) formula_is
-            ((holds_for (with_values xs row v) (same_on_scope scope xs new v fit row long) (row_values scope xs new v fit row long)).0
-            (row, there, λ x among. value_at-with_inside xs row v x (new_distinct scope xs new) long among)),
-      )
-
-  module _ (trace : List Step) (is : IsNowOf now trace) (row : List Value) (long : length row ≡ length xs) where
+  module _ (row : List Value) (long : length row ≡ length xs) where
     abbrev w : Valuation
     w = with_values xs row v
+
+    agrees : AgreesWithRow w xs row
+    agrees x there = value_at-with_inside xs row v x (new_distinct scope xs new) long there
+
+    pub row_agrees : AgreeOnColumns g.guard.bound v w
+    row_agrees = subst (λ b. AgreeOnColumns b v w) (sym bound_is) (same_on_scope scope xs new v fit row long)
+
+    pub row_binds : BindsColumns w t.columns
+    row_binds = subst (BindsColumns w) (sym same_columns) (row_values scope xs new v fit row long)
+
+    pub has_row : Contains t.rows row → HasValuation t w
+    has_row there = (row, there, subst (λ c. AgreesWithRow w c row) (sym same_columns) agrees)
+
+    pub row_there : HasValuation t w → Contains t.rows row
+    row_there has =
+        subst (Contains t.rows) (agrees_once w xs has.0 row (new_distinct scope xs new) (row_fits has.0 has.1) long
+        (subst (λ c. AgreesWithRow w c has.0) same_columns has.2) agrees) has.1
 
     free_binds : (x : VarId) → IsFree x f → IsSome (value_at w x)
     free_binds x free =
@@ -137,24 +144,33 @@ module _ (now : Now) (n : ℕ) (f : Formula) (scope xs : List VarId) (at : IsGua
         (λ other. row_values scope xs new v fit row long x ((opening.exact x).1 (free, other)))
         (among_or_not scope x)
 
-    on_trace : HoldsNow now.ordered.now (tables_of g now.tables.now) w (guard_formula g) ↔ HoldsLast trace w (guard_formula g)
-    on_trace = is.guards n g found w (λ x free. free_binds x (subst (IsFree x) formula_is free))
+    -- the guard holds by its tables where it is satisfied
+    pub on_trace : (trace : List Step) → IsNowOf now trace
+        → HoldsNow now.ordered.now (tables_of g now.tables.now) w (guard_formula g) ↔ HoldsLast trace w f
+    on_trace trace is =
+        subst (λ h. HoldsNow now.ordered.now (tables_of g now.tables.now) w (guard_formula g) ↔ HoldsLast trace w h) formula_is
+        (is.guards n g found w (λ x free. free_binds x (subst (IsFree x) formula_is free)))
 
-    by_table : HasValuation (record { columns = xs; rows = t.rows }) w ↔ HoldsNow now.ordered.now (tables_of g now.tables.now) w (guard_formula g)
-    by_table = holds_for w (same_on_scope scope xs new v fit row long) (row_values scope xs new v fit row long)
+  -- for each row of the table the guard holds by its tables
+  pub row_holds : HoldFor now n v t → (row : List Value) → Contains t.rows row
+      → (tables : List Relation) × HoldsNow now.ordered.now tables (with_values xs row v) f
+  row_holds sound row there =
+      let long = row_fits row there in (
+        tables_of g now.tables.now,
+        subst (HoldsNow now.ordered.now (tables_of g now.tables.now) (with_values xs row v)) formula_is
+            (sound g found (w row long) (row_agrees row long) (row_binds row long) (has_row row long there)),
+      )
 
-    agrees : AgreesWithRow w xs row
-    agrees x there = value_at-with_inside xs row v x (new_distinct scope xs new) long there
-
-    pub is_row : Contains t.rows row ↔ HoldsLast trace w f
-    is_row = (
-      λ there. subst (HoldsLast trace w) formula_is (on_trace.0 (by_table.0 (row, there, agrees))),
-      λ holds. let has = by_table.1 (on_trace.1 (subst (HoldsLast trace w) (sym formula_is) holds)) in
-          subst (Contains t.rows) (agrees_once w xs has.0 row (new_distinct scope xs new) (row_fits has.0 has.1) long has.2 agrees) has.1,
-    )
-
-  pub rows_are : (trace : List Step) → IsNowOf now trace → AreGuardRows trace v xs f t.rows
-  rows_are trace is = record { fit = is_table.fits; rise = table.rising; are = λ row long. is_row trace is row long }
+  pub rows_are : AreEvaluated now.tables.now n now.ordered.now v t → (trace : List Step) → IsNowOf now trace → AreGuardRows trace v xs f t.rows
+  rows_are evaluated trace is = record {
+    fit = is_table.fits;
+    rise = table.rising;
+    are = λ row long.
+        let by_table = evaluated g found (w row long) (row_agrees row long) (row_binds row long) in (
+          λ there. (on_trace row long trace is).0 (by_table.0 (has_row row long there)),
+          λ holds. row_there row long (by_table.1 ((on_trace row long trace is).1 holds)),
+        );
+  }
 
 -- a test holds at the step where it holds by its tables
 pub test_is : (now : Now) (trace : List Step) (n : ℕ) (f : Formula) (scope : List VarId)

@@ -7,7 +7,7 @@ use Rattle.obligations.proofs.Vocabulary.{IsNodeByNumber, StandsIn, filled_from_
 use Rattle.obligations.proofs.Vocabulary.{IsGuardAt, CanAskOf, FitsScope, guards_at, BeginsOrWaits, Begun, LacksNothing, LacksSome, WithBehind, begun_now, Gathers, IsReachedBy, Instance, Now}
 use Rattle.std.specs.Prelude.{IsTrue}
 use Rattle.obligations.proofs.AdditionLemmas.{gathers_as, row_is}
-use Rattle.obligations.proofs.AskablePlanLemmas.{rows_are, test_is}
+use Rattle.obligations.proofs.AskablePlanLemmas.{hold_for, rows_are, test_is}
 use Rattle.obligations.proofs.TriggeredGuardLemmas.{row_met}
 use Rattle.obligations.proofs.WantedLiteralLemmas.{in_body, in_left, in_right}
 
@@ -289,7 +289,7 @@ module _ (now : Now) (n : ℕ) (f : Formula) (scope xs : List VarId) (at : IsGua
           subst (AllByRecursion (IsBegunHere now rule (Guarded node xs n f body))) (sym (nil_from_length more (omega (arith, same, long)))) tt
       by (row ∷ rows) are =
           begun_below now rule body (Guarded node xs n f body)
-          (λ end is. inr (row_met now n f scope xs at opening new v fit t table columns evaluated row (subst (λ l. Contains l row) (sym are) (here row rows)), is)) more each
+          (λ end is. inr (row_met now n f scope xs at opening new v fit t table columns (hold_for now n v t evaluated) row (subst (λ l. Contains l row) (sym are) (here row rows)), is)) more each
 
   pub rows_begun : (rule node : ℕ) (body : Plan) (before after : List Instance)
       → AddsAsked now rule body (λ trace. Gathers (λ row. Begun trace rule body (filled_from_row v t.columns row)) t.rows) before after
@@ -302,7 +302,7 @@ module _ (now : Now) (n : ℕ) (f : Formula) (scope xs : List VarId) (at : IsGua
         t.rows,
         rows_are now n f scope xs at opening new v fit t table columns evaluated trace is,
         gathers_as (λ row. Begun trace rule body (filled_from_row v t.columns row)) (λ row. Begun trace rule body (with_values xs row v)) t.rows puts.adds.more
-            (λ row there ys one. subst (λ w. Begun trace rule body w ys) (row_is now n f scope xs at opening new v fit t table columns evaluated row there) one)
+            (λ row there ys one. subst (λ w. Begun trace rule body w ys) (row_is now n f scope xs at opening new v fit t table columns row) one)
             (puts.adds.are trace is),
       );
     };

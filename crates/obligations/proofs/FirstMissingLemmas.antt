@@ -1,16 +1,15 @@
 -- The first literal that the parts of a plan miss is the first that its whole misses.
 use Rattle.obligations.proofs.Vocabulary.{◌≡◌, ℕ, zero, suc, ◌<◌, Bool, true, false, List, [], ◌∷◌, ◌++◌, length, Contains, Option, None, Some, refl, sym, subst, arith, inl, inr, ◌∙◌, true≢false}
-use Rattle.obligations.proofs.Vocabulary.{take, get_or, is_none, option_to_list, ◌↔◌, IsFalse, IsSome, not, Valuation, value_at, values_of_terms, with_values, BindsColumns, Event, NameId, Step, Term}
-use Rattle.obligations.proofs.Vocabulary.{Var, VarId, Formula, IsEventAmong, AreNewVariables, AreOpen, FreeWithin, AreEvaluated, HasOpenColumns, IsEvaluated, Plan, CausePlan, SuppressPlan, Both}
-use Rattle.obligations.proofs.Vocabulary.{Either, TestOr, Guarded, UntilPlan, filled_from_row, IsTable, Relation, TellsNothing, IsNowOf, CanAskPlan, IsGuardAt, FitsScope, guards_at, MissingExists}
-use Rattle.obligations.proofs.Vocabulary.{LiteralUnless, Missing, OfEvent, cause_literal, suppress_literal, Gathers, FirstMissing, FirstOf, Literal, Now, later}
+use Rattle.obligations.proofs.Vocabulary.{take, get_or, is_none, option_to_list, ◌↔◌, IsFalse, IsSome, not, Valuation, value_at, values_of_terms, BindsColumns, Event, NameId, Step, Term, Var, VarId}
+use Rattle.obligations.proofs.Vocabulary.{Formula, IsEventAmong, FreeWithin, IsEvaluated, Plan, CausePlan, SuppressPlan, Both, Either, TestOr, UntilPlan, TellsNothing, IsNowOf, CanAskPlan, IsGuardAt}
+use Rattle.obligations.proofs.Vocabulary.{guards_at, MissingExists, LiteralUnless, Missing, OfEvent, cause_literal, suppress_literal, Gathers, FirstMissing, FirstOf, Literal, Now, later}
 use Rattle.std.specs.Prelude.{IsTrue}
-use Rattle.obligations.proofs.AdditionLemmas.{gathers_as, gathers_exist, right_of_either, row_is}
-use Rattle.obligations.proofs.AskablePlanLemmas.{rows_are, test_is}
+use Rattle.obligations.proofs.AdditionLemmas.{gathers_exist, right_of_either}
+use Rattle.obligations.proofs.AskablePlanLemmas.{test_is}
 use Rattle.obligations.proofs.SoundnessLemmas.{nil_left, nil_right}
 use Rattle.obligations.proofs.LeafLemmas.{bound_values, nothing_suppressed}
 
-first_as : (P Q : List Literal → Type 0) → ((ls : List Literal) → P ls → Q ls) → (found : Option Literal) → FirstOf P found
+pub first_as : (P Q : List Literal → Type 0) → ((ls : List Literal) → P ls → Q ls) → (found : Option Literal) → FirstOf P found
     → FirstOf Q found
 first_as P Q turn None is = turn [] is
 first_as P Q turn (Some l) (rest, is) = (rest, turn (l ∷ rest) is)
@@ -121,19 +120,3 @@ gathers_first P (b ∷ ps) (suc k) a l within at each (one, rest, is, others, ar
     let none = nil_left one rest are in
     let after = gathers_first P ps k a l (omega (arith, within)) at (λ c there. each c (later c b ps there)) (subst (Gathers P (take k ps)) (nil_right one rest are) others) first in
     (after.0, ([], l ∷ after.0, subst (P b) none is, after.1, refl))
-
-module _ (now : Now) (n : ℕ) (f : Formula) (scope xs : List VarId) (at : IsGuardAt (guards_at now.tables.now) n f scope)
-    (opening : AreOpen f scope xs) (new : AreNewVariables scope xs) (v : Valuation) (fit : FitsScope scope v) (t : Relation)
-    (table : IsTable t) (columns : HasOpenColumns now.tables.now n t)
-    (evaluated : AreEvaluated now.tables.now n now.ordered.now v t) where
-  pub rows_first : (node : ℕ) (body : Plan) (found : Option Literal)
-      → ((trace : List Step) → IsNowOf now trace → FirstOf (Gathers (λ row. Missing trace body (filled_from_row v t.columns row)) t.rows) found)
-      → First now v (Guarded node xs n f body) found
-  rows_first node body found first trace is =
-      first_as (Gathers (λ row. Missing trace body (filled_from_row v t.columns row)) t.rows) (Missing trace (Guarded node xs n f body) v)
-      (λ ls gathered. (
-        t.rows,
-        rows_are now n f scope xs at opening new v fit t table columns evaluated trace is,
-        gathers_as (λ row. Missing trace body (filled_from_row v t.columns row)) (λ row. Missing trace body (with_values xs row v)) t.rows ls
-            (λ row there ys missing. subst (λ w. Missing trace body w ys) (row_is now n f scope xs at opening new v fit t table columns evaluated row there) missing) gathered,
-      )) found (first trace is)

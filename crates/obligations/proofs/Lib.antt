@@ -6,10 +6,9 @@ pub mod CaseLemmas
 pub mod DeadlineLaws
 pub mod EmptyGuardLemmas
 pub mod ExistenceLemmas
-pub mod FallingLemmas
-pub mod FallingTests
 pub mod FirstMissingLemmas
 pub mod GatheredLists
+pub mod GuardedRowLemmas
 pub mod InstanceLeadLemmas
 pub mod ItemLemmas
 pub mod LawLemmas
@@ -18,7 +17,9 @@ pub mod LiteralLeadLemmas
 pub mod LossLemmas
 pub mod MetStaysLemmas
 pub mod MissingLeafLemmas
+pub mod MovedTests
 pub mod OwedCases
+pub mod OwnRowLemmas
 pub mod PartLemmas
 pub mod PatientPlanLemmas
 pub mod PendingBoundLemmas
@@ -40,6 +41,7 @@ pub mod TriggeredNodeLemmas
 pub mod UniquenessLemmas
 pub mod UnreadInstanceLemmas
 pub mod UnreadNameLemmas
+pub mod UnreadRestLemmas
 pub mod ValueSourceLemmas
 pub mod WakingLemmas
 pub mod WantedLiteralLemmas

@@ -1,5 +1,5 @@
 -- What missed nothing on one trace misses nothing on another, where each node of it stays met there.
-use Rattle.obligations.proofs.Vocabulary.{◌≡◌, ◌↔◌, ℕ, zero, suc, List, [], ◌∷◌, ◌++◌, length, Contains, Option, None, Some, refl, subst, inl, inr, ⊎_elim, AllByRecursion, All-contains, Valuation}
+use Rattle.obligations.proofs.Vocabulary.{◌≡◌, ℕ, zero, suc, List, [], ◌∷◌, ◌++◌, length, Contains, Option, None, Some, refl, subst, inl, inr, ⊎_elim, AllByRecursion, All-contains, Valuation}
 use Rattle.obligations.proofs.Vocabulary.{values_of_terms, with_values, Event, NameId, Step, Term, VarId, Value, Formula, nodes, Plan, CausePlan, SuppressPlan, Both, Either, TestOr, Guarded}
 use Rattle.obligations.proofs.Vocabulary.{EventuallyPlan, AlwaysPlan, UntilPlan, NextPlan, CanAskIn, FitsScope, CanAskPlan, MissingExists, IsAbsent, IsPresent, LiteralUnless, MissesUntil, Missing}
 use Rattle.obligations.proofs.Vocabulary.{OfEvent, cause_literal, suppress_literal, Gathers, HoldsLast, Literal, first_or_later, here, later, nil_not_cons, none_in_nil}
@@ -34,14 +34,14 @@ nothing_of_each P [] each = refl
 nothing_of_each P (x ∷ xs) each =
     ([], [], each x (here x xs), nothing_of_each P xs (λ y there. each y (later y x xs there)), refl)
 
--- where a node has the property, what its leaf wants stays so, its test holds as before, and its guard has no row more
+-- where a node has the property, what its leaf wants stays so, its test holds still, and its guard has no row more
 pub record KeepsMet (trace other : List Step) (P : Plan → Type 0) : Type 0 where
   pub caused : (node place : ℕ) (name : NameId) (terms : List Term) → P (CausePlan node place name terms) → (e : Event)
       → e.name ≡ name → IsPresent trace e → IsPresent other e
   pub suppressed : (node place : ℕ) (name : NameId) (terms : List Term) → P (SuppressPlan node place name terms) → (e : Event)
       → e.name ≡ name → IsAbsent trace e → IsAbsent other e
   pub tested : (node guard : ℕ) (test : Formula) (body : Plan) → P (TestOr node guard test body) → (v : Valuation)
-      → HoldsLast trace v test ↔ HoldsLast other v test
+      → HoldsLast trace v test → HoldsLast other v test
   pub guarded : (node : ℕ) (xs : List VarId) (guard : ℕ) (test : Formula) (body : Plan) → P (Guarded node xs guard test body)
       → (v : Valuation) → HoldsLast other v test → HoldsLast trace v test
 
@@ -67,10 +67,14 @@ module _ (exist : MissingExists) (guards : List (Formula × List VarId)) (trace 
       let r = stays right scope can.2 (all_right P (nodes left) (nodes right) all.1) v fit in
       ⊎_elim (λ met. inl (l met.0, refl)) (λ more. ⊎_elim (λ met. inr (inl (r met.0, refl))) (λ lacks. inr (inl (r lacks.2, refl))) more) missing
   stays (TestOr node guard test body) scope can all v fit missing =
+      let found = exist guards other (TestOr node guard test body) v (record { scope = scope; can = can; fits = fit }) in
       ⊎_elim
-      (λ met. inl ((keeps.tested node guard test body all.0 v).0 met.0, refl))
-      (λ fails. inr ((λ holds. fails.0 ((keeps.tested node guard test body all.0 v).1 holds)), stays body scope can.1 all.1 v fit fails.1))
-      missing
+      (λ met. inl (met.0, refl))
+      (λ fails. ⊎_elim
+      (λ was. absurd (fails.0 (keeps.tested node guard test body all.0 v was.0)))
+      (λ failed. inr (fails.0, stays body scope can.1 all.1 v fit failed.1))
+      missing)
+      found.1
   stays (Guarded node xs guard test body) scope can all v fit (rows, are, gathered) =
       let found = exist guards other (Guarded node xs guard test body) v (record { scope = scope; can = can; fits = fit }) in
       let (left, now, others) = found.1 in (

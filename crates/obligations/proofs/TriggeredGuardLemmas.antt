@@ -2,8 +2,8 @@
 use Rattle.obligations.proofs.Vocabulary.{◌≡◌, ◌⊎◌, ℕ, true, false, Bool, List, [], ◌∷◌, ◌++◌, Option, None, Some, Contains, nat_eq, refl, sym, ap, subst, inl, inr, ⊎_elim, Decides, unsigned_Decides}
 use Rattle.obligations.proofs.Vocabulary.{option_or, false≢true, Contains-append_left, Contains-append_right, Contains-push, list_any-Decides, first_or_later, here, later, none_in_nil, Valuation}
 use Rattle.obligations.proofs.Vocabulary.{values_of_terms, with_values, Event, NameId, VarId, Value, Formula, Atom, And, Or, Exists, Classically, IsEventAmong, AreNewVariables, AreOpen, HoldsNow}
-use Rattle.obligations.proofs.Vocabulary.{tables_beyond, AreEvaluated, HasOpenColumns, of_each, triggers, IsTable, Relation, FitsScope, IsGuardAt, guards_at, AreMetBy, Now}
-use Rattle.obligations.proofs.AskablePlanLemmas.{row_holds}
+use Rattle.obligations.proofs.Vocabulary.{tables_beyond, HasOpenColumns, of_each, triggers, IsTable, Relation, FitsScope, IsGuardAt, guards_at, AreMetBy, Now}
+use Rattle.obligations.proofs.AskablePlanLemmas.{HoldFor, row_holds}
 
 -- ---- events of some names
 
@@ -93,8 +93,8 @@ guard_met events tables v test holds = by (triggers test) refl
 module _ (now : Now) (n : ℕ) (f : Formula) (scope xs : List VarId) (at : IsGuardAt (guards_at now.tables.now) n f scope)
     (opening : AreOpen f scope xs) (new : AreNewVariables scope xs) (v : Valuation) (fit : FitsScope scope v) (t : Relation)
     (table : IsTable t) (columns : HasOpenColumns now.tables.now n t)
-    (evaluated : AreEvaluated now.tables.now n now.ordered.now v t) where
+    (sound : HoldFor now n v t) where
   pub row_met : (row : List Value) → Contains t.rows row → AreMetBy now.ordered.now (triggers f)
   row_met row there =
-      let holds = row_holds now n f scope xs at opening new v fit t table columns evaluated row there in
+      let holds = row_holds now n f scope xs at opening new v fit t table columns sound row there in
       guard_met now.ordered.now holds.0 (with_values xs row v) f holds.1

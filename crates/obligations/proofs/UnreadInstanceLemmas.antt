@@ -1,11 +1,11 @@
--- What a pending instance missed nothing of it misses nothing of after an action on a name that the plans do not read.
+-- What a pending instance missed nothing of it misses nothing of after an action on a name that does not move its node.
 use Rattle.obligations.proofs.Vocabulary.{◌≡◌, ◌⊎◌, ℕ, zero, suc, Bool, true, false, cond, List, [], ◌∷◌, ◌++◌, Contains, Option, None, Some, refl, sym, ap, subst, arith, inl, inr, ⊎_elim, ◌∙◌}
 use Rattle.obligations.proofs.Vocabulary.{slice_get, AllByRecursion, find, none-some, same_Some, step_at, AllByRecursion-contains, Contains-append, first_or_later, here, later, none_in_nil, NameId}
-use Rattle.obligations.proofs.Vocabulary.{Step, VarId, cases_le, Formula, NamesDecide, has_number, nodes, node_in, nodes_of, Plan, CausePlan, SuppressPlan, Both, Either, TestOr, Guarded}
-use Rattle.obligations.proofs.Vocabulary.{EventuallyPlan, AlwaysPlan, UntilPlan, NextPlan, CanAskPlan, LacksNothing, LacksSome, IfElse, time_now, Missing, last_position, MissingExists, AtNode}
-use Rattle.obligations.proofs.Vocabulary.{IsInWindow, IsNowIn, MissesAt, DiffersIn, IsUnread, CanAskOf, MissingOf, UnreadInstanceStaysMet, Instance, Literal, LiteralKind}
+use Rattle.obligations.proofs.Vocabulary.{Step, VarId, cases_le, Formula, has_number, nodes, node_in, nodes_of, Plan, CausePlan, SuppressPlan, Both, Either, TestOr, Guarded, EventuallyPlan}
+use Rattle.obligations.proofs.Vocabulary.{AlwaysPlan, UntilPlan, NextPlan, CanAskPlan, LacksNothing, LacksSome, IfElse, time_now, Missing, last_position, MissingExists, AtNode, IsInWindow, IsNowIn}
+use Rattle.obligations.proofs.Vocabulary.{MissesAt, DiffersIn, IsUnmoved, IsUnmovedIn, node_of, UnreadInstanceStaysMet, Instance, Literal, LiteralKind, MoreEventsKeep}
 use Rattle.obligations.proofs.SoundnessLemmas.{all_left, all_right}
-use Rattle.obligations.proofs.UnreadNameLemmas.{same_last, unread_stays_met}
+use Rattle.obligations.proofs.UnreadNameLemmas.{same_last, same_times, unread_stays_met}
 
 -- ---- what holds at each node of a plan holds below each of them
 
@@ -148,27 +148,21 @@ module _ (exist : MissingExists) (guards : List (Formula × List VarId)) (P : Pl
   at_stays (TestOr n guard test body) forced unread can missing = absurd missing
   at_stays (Guarded n xs guard test body) forced unread can missing = absurd missing
 
--- what a pending instance missed nothing of stays so, where what is missed of each plan with the property does
-pub instance_stays_met : MissingExists → (guards : List (Formula × List VarId)) (P : Plan → Type 0) (trace other : List Step)
-    (plans : List Plan) (i : Instance) (forced : Bool) → time_now trace ≡ time_now other
-    → ((plan : Plan) → AllByRecursion P (nodes plan) → CanAskPlan guards plan i.valuation → Missing trace plan i.valuation []
-    → Missing other plan i.valuation [])
-    → AllByRecursion (λ plan. AllByRecursion P (nodes plan)) plans → CanAskOf guards plans i → MissingOf plans trace i forced []
-    → MissingOf plans other i forced []
-instance_stays_met exist guards P trace other plans i forced same stays all can missing =
+pub same_time : (k : LiteralKind) (name : NameId) (trace other : List Step) → DiffersIn k name trace other
+    → time_now trace ≡ time_now other
+same_time k name trace other differs =
+    same_times k name trace other differs (last_position trace)
+    ∙ ap (λ n. (step_at other n).time) (same_last k name trace other differs)
+
+pub unread_instance_stays_met : MoreEventsKeep → MissingExists → UnreadInstanceStaysMet
+unread_instance_stays_met keep exist guards k name trace other plans i forced differs unmoved can missing =
     subst (λ o. AtNode o (λ node. MissesAt other node i forced [])) (sym can.found)
-    (at_stays exist guards P trace other i same stays can.node forced
-    (at_node P plans i.rule i.node can.node all can.found) can.can
+    (at_stays exist guards (IsUnmoved k name) trace other i (same_time k name trace other differs)
+    (λ plan all can_plan misses. unread_stays_met keep exist guards k name trace other plan i.valuation differs all can_plan misses)
+    can.node forced (unmoved can.node can.found) can.can
     (subst (λ o. AtNode o (λ node. MissesAt trace node i forced [])) can.found missing))
 
-pub same_time : NamesDecide → (k : LiteralKind) (name : NameId) (trace other : List Step) → DiffersIn k name trace other
-    → time_now trace ≡ time_now other
-same_time names k name trace other differs =
-    differs.times (last_position trace)
-    ∙ ap (λ n. (step_at other n).time) (same_last names k name trace other differs)
-
-pub unread_instance_stays_met : NamesDecide → MissingExists → UnreadInstanceStaysMet
-unread_instance_stays_met names exist guards k name trace other plans i forced differs unread can missing =
-    instance_stays_met exist guards (IsUnread k name) trace other plans i forced (same_time names k name trace other differs)
-    (λ plan all can_plan misses. unread_stays_met names exist guards k name trace other plan i.valuation differs all can_plan misses)
-    unread can missing
+-- where an action moves none of the plans, it moves no node of them
+pub node_unmoved : (k : LiteralKind) (name : NameId) (plans : List Plan) → AllByRecursion (IsUnmovedIn k name) plans
+    → (i : Instance) (node : Plan) → node_of plans i ≡ Some node → IsUnmovedIn k name node
+node_unmoved k name plans all i node found = at_node (IsUnmoved k name) plans i.rule i.node node all found

@@ -44,6 +44,7 @@ pub use Rattle.enf_formula.specs.machine.Agreement.{HaveSameNamedEvents, names_i
 pub use Rattle.enf_formula.specs.machine.Cases.{at_time, event_p, event_p_of, event_q, event_q_of, formula_p_x, name_p, name_q, variable_x}
 pub use Rattle.enf_formula.specs.machine.FormulaViews.{tree_of}
 pub use Rattle.enf_formula.specs.machine.Laws.{NamesDecide, PastDecides}
+pub use Rattle.enf_formula.specs.machine.Polarity.{AsksOnly, HaveMoreOf, MoreEventsKeep}
 pub use Rattle.enf_formula.specs.machine.FormulaShape.{AreNewVariables, AreTermsInScope, IsTermInScope, is_past}
 pub use Rattle.enf_formula.specs.meaning.Satisfaction.{And, Atom, Classically, Exists, Formula, HoldsUntil, IsEventAmong, IsFree, Or, Sat, elapsed}
 pub use Rattle.monitorable_guard.specs.machine.Evaluation.{AreHoldingRows, AreOpen, IsKnownNow}
@@ -63,11 +64,11 @@ pub use Rattle.obligations.specs.machine.Cases.{always_p, at_5, at_once_for, bar
 pub use Rattle.obligations.specs.machine.Cases.{then_at, then_for, two_and_one, value_1, value_2, waiting}
 pub use Rattle.obligations.specs.machine.Deadlines.{count_due, deadline_at, is_deadline_at, is_due}
 pub use Rattle.obligations.specs.machine.ExistenceLaws.{AfterExists, BegunExists, MissingExists, MissingOfExists, PendExists, PendingAfterExists}
-pub use Rattle.obligations.specs.machine.FallingLaws.{FallingInstanceStaysMet, FallingStaysMet, OwnLeavesRest}
-pub use Rattle.obligations.specs.machine.FallingNames.{AnswersOwn, GrowsWith, Ignores, IsFalling, SuppressesWith, CanBatch, IsFallingIn, KeepsRest, SuppressesOwn, is_same_name}
 pub use Rattle.obligations.specs.machine.FirstMissing.{FirstMissing, FirstOf}
 pub use Rattle.obligations.specs.machine.Leaves.{IsBound, IsLeaf, IsLeafConstant, terms_of}
 pub use Rattle.obligations.specs.machine.LossLaws.{SomethingMissedIsLost, time_behind}
+pub use Rattle.obligations.specs.machine.MovedPlans.{AnswersOwn, CanBatch, IgnoresIn, IsUnmoved, IsUnmovedIn, KeepsFalse, KeepsTrue, LeavesRest, LeavesRestIn, SuppressesOwn, SuppressesWith, brings}
+pub use Rattle.obligations.specs.machine.MovedPlans.{is_same_name}
 pub use Rattle.obligations.specs.machine.Parts.{AsksPart, AsksPartOrNothing, HasPart, IsAskedPart}
 pub use Rattle.obligations.specs.machine.PlanClasses.{IsPatient, IsPlain, LooksAtNow, PlansStand}
 pub use Rattle.obligations.specs.machine.PresentStep.{IsNowOf, IsSideTaken, TakesSide, TellsNothing, begun_at_now}
@@ -81,7 +82,7 @@ pub use Rattle.obligations.specs.machine.TriggerLaws.{BegunIsNamed, BegunIsReach
 pub use Rattle.obligations.specs.machine.TriggeredNodes.{AreMetBy, HoldsNowhere, IsBegunAt, IsBegunBy, IsBegunIn, IsMissedIn, IsReached, IsReachedBy, begun_at, last_events}
 pub use Rattle.obligations.specs.machine.UniquenessLaws.{AfterIsOne, BegunIsOne, MissingIsOne, MissingOfIsOne, PendIsOne, RowsAreOne}
 pub use Rattle.obligations.specs.machine.UnreadLaws.{UnreadInstanceStaysMet, UnreadLeavesRest, UnreadStaysMet}
-pub use Rattle.obligations.specs.machine.UnreadNames.{AreThoseWith, DiffersIn, IsStillWanted, IsUnread, IsUnreadIn}
+pub use Rattle.obligations.specs.machine.UnreadNames.{AreThoseWith, DiffersIn, Ignores, IgnoresAt, IsStillWanted, IsUnread, IsUnreadIn}
 pub use Rattle.obligations.specs.machine.ValueLaws.{MissedAreOwn, MissedIsRight, MissedOfAreOwn, MissedOfIsRight, PendingIsRight}
 pub use Rattle.obligations.specs.machine.ValueSources.{IsKnownOn, IsOwnLiteral}
 pub use Rattle.obligations.specs.machine.WantedLiterals.{IsKnownAt, IsWanted, IsWantedOf, IsWantedUnder}

@@ -2,14 +2,13 @@
 use Rattle.obligations.proofs.Vocabulary.{◌≡◌, ℕ, zero, suc, Bool, true, false, cond, List, [], ◌∷◌, ◌++◌, length, map, drop, Contains, Option, None, Some, refl, sym, ap, subst, arith, inl, inr}
 use Rattle.obligations.proofs.Vocabulary.{⊎_elim, ◌⊎◌, ◌∙◌, IfSome, slice_get, option_to_list, append-nil, Contains-append_left, Contains-append_right, Contains-push_cases, same_Some, none-some}
 use Rattle.obligations.proofs.Vocabulary.{first_or_later, here, later, none_in_nil, Valuation, onto_values, value_of_term, values_of_terms, with_values, Event, NameId, Term, Var, Const, VarId, Value}
-use Rattle.obligations.proofs.Vocabulary.{as_many_values, Formula, AreNewVariables, AreOpen, IsKnownNow, IsKnownOfGuard, AreEvaluated, HasOpenColumns, IsGuard, guard_formula, tables_of, PlacedGuard}
-use Rattle.obligations.proofs.Vocabulary.{nodes, Plan, CausePlan, SuppressPlan, Guarded, among_or_not, value_at-with_inside, value_at-with_outside, IsTable, Relation, row_cell, AddsOf, FitsScope}
-use Rattle.obligations.proofs.Vocabulary.{IsBound, IsLeafConstant, IsGuardAt, IsKnownAt, IsWanted, IsWantedUnder, guards_at, LiteralUnless, OfEvent, cause_literal, suppress_literal, IsReachedBy}
-use Rattle.obligations.proofs.Vocabulary.{Literal, Now}
+use Rattle.obligations.proofs.Vocabulary.{as_many_values, Formula, AreNewVariables, AreOpen, IsKnownNow, IsKnownOfGuard, HasOpenColumns, IsGuard, guard_formula, tables_of, PlacedGuard, nodes, Plan}
+use Rattle.obligations.proofs.Vocabulary.{CausePlan, SuppressPlan, Guarded, among_or_not, value_at-with_inside, value_at-with_outside, IsTable, Relation, row_cell, AddsOf, FitsScope, IsBound}
+use Rattle.obligations.proofs.Vocabulary.{IsLeafConstant, IsGuardAt, IsKnownAt, IsWanted, IsWantedUnder, guards_at, LiteralUnless, OfEvent, cause_literal, suppress_literal, IsReachedBy, Literal, Now}
 use Rattle.std.proofs.Common.{◌==◌}
 use Rattle.obligations.proofs.AdditionLemmas.{row_is}
 use Rattle.obligations.proofs.ExistenceLemmas.{present_or_not}
-use Rattle.obligations.proofs.AskablePlanLemmas.{new_distinct, row_fits, the_guard}
+use Rattle.obligations.proofs.AskablePlanLemmas.{HoldFor, new_distinct, row_fits, the_guard}
 use Rattle.obligations.proofs.TriggeredGuardLemmas.{row_met}
 
 -- ---- the values of a leaf's terms
@@ -154,7 +153,7 @@ mapped f (y ∷ xs) (suc k) x e = later (f x) (f y) (map f xs) (mapped f xs k x 
 module _ (now : Now) (n : ℕ) (f : Formula) (scope xs : List VarId) (at : IsGuardAt (guards_at now.tables.now) n f scope)
     (opening : AreOpen f scope xs) (new : AreNewVariables scope xs) (v : Valuation) (fit : FitsScope scope v) (t : Relation)
     (table : IsTable t) (columns : HasOpenColumns now.tables.now n t)
-    (evaluated : AreEvaluated now.tables.now n now.ordered.now v t)
+    (sound : HoldFor now n v t)
     (known : IsKnownOfGuard now.tables.now n now.ordered.now v t) (body : Plan) (node : ℕ) where
   abbrev whole : Plan
   whole = Guarded node xs n f body
@@ -176,16 +175,16 @@ module _ (now : Now) (n : ℕ) (f : Formula) (scope xs : List VarId) (at : IsGua
       let g = the_guard now.tables.now n f scope at in
       ⊎_elim
       (λ brought. told g.0 g.1 value (known g.0 g.1 row there value (cell_value xs row x value
-      (sym (value_at-with_inside xs row v x (new_distinct scope xs new) (row_fits now n f scope xs at opening new v fit t table columns evaluated row there) brought) ∙ e))))
+      (sym (value_at-with_inside xs row v x (new_distinct scope xs new) (row_fits now n f scope xs at opening new v fit t table columns row there) brought) ∙ e))))
       (λ other. inl (x, sym (value_at-with_outside xs row v x other) ∙ e))
       (among_or_not xs x)
 
   pub wanted_under : (l : Literal) → IsWantedUnder now body v t l → IsWanted now whole v l
   wanted_under l under =
-      let w = subst (λ u. IsWanted now body u l) (row_is now n f scope xs at opening new v fit t table columns evaluated under.row under.there) under.wanted in record {
+      let w = subst (λ u. IsWanted now body u l) (row_is now n f scope xs at opening new v fit t table columns under.row) under.wanted in record {
         leaf = w.leaf;
         there = in_body whole body w.leaf w.there;
-        reached = inr (row_met now n f scope xs at opening new v fit t table columns evaluated under.row under.there, w.reached);
+        reached = inr (row_met now n f scope xs at opening new v fit t table columns sound under.row under.there, w.reached);
         is = w.is;
         changes = w.changes;
         known = λ value there. ⊎_elim (λ bound. row_known under.row under.there value bound)

@@ -10,10 +10,9 @@ pub mod Residuals
 pub mod Cases
 pub mod Deadlines
 pub mod ExistenceLaws
-pub mod FallingNames
-pub mod FallingLaws
 pub mod FirstMissing
 pub mod LossLaws
+pub mod MovedPlans
 pub mod Parts
 pub mod Progress
 pub mod RightValues
@@ -27,3 +26,4 @@ pub mod UnreadLaws
 pub mod ValueSources
 pub mod ValueLaws
 pub mod WantedLiterals
+pub mod GuardedRows

@@ -16,7 +16,6 @@ ghost use Rattle.obligations.specs.machine.TriggerLaws.{BegunIsNamed, BegunIsRea
 ghost use Rattle.obligations.specs.machine.TriggerLaws.{UnwokenBeginsNothing, UnwokenMissesNothing};
 ghost use Rattle.obligations.specs.machine.ValueLaws.{MissedIsRight, MissedOfIsRight, PendingIsRight, MissedAreOwn};
 ghost use Rattle.obligations.specs.machine.ValueLaws.{MissedOfAreOwn};
-ghost use Rattle.obligations.specs.machine.FallingLaws.{FallingInstanceStaysMet, FallingStaysMet, OwnLeavesRest};
 ghost use Rattle.obligations.specs.machine.UnreadLaws.{UnreadInstanceStaysMet, UnreadLeavesRest, UnreadStaysMet};
 
 use enf_formula::laws;
@@ -153,25 +152,16 @@ pub fn now_stands()
     ensures { NowStands }
 {}
 
-/// What missed nothing misses nothing after an action on a name that no guard or test of it looks for, and of which no
-/// leaf wants the contrary. What missed something misses the rest of it, where it has no choices.
+/// What missed nothing misses nothing after an action on a name where no leaf of it wants the contrary, each of its
+/// tests holds still and none of its guards has a row more. What missed something misses the rest of it, where it has
+/// no choices, and no guard or test looks for the name or a rule takes out just what its guard holds for.
 pub fn unread_stays_met()
     ensures plans { UnreadStaysMet }
     ensures instances { UnreadInstanceStaysMet }
     ensures rest { UnreadLeavesRest }
 {
     laws::dependence();
-    missing_exists();
-}
-
-/// What missed nothing misses nothing after events of a name went, where each of its nodes is falling in the name. A
-/// plan that suppresses just what its guard holds for misses after that what it missed and is still there.
-pub fn falling_stays_met()
-    ensures plans { FallingStaysMet }
-    ensures instances { FallingInstanceStaysMet }
-    ensures rest { OwnLeavesRest }
-{
-    laws::dependence();
+    laws::polarity();
     missing_exists();
 }
 

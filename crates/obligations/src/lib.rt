@@ -5,7 +5,7 @@
 pub mod actions;
 pub mod begin;
 mod empty_guards;
-pub mod falling_names;
+mod guarded_rows;
 pub mod instances;
 pub mod laws;
 mod leaves;
@@ -13,6 +13,7 @@ pub mod literals;
 mod missing_all;
 mod missing_first;
 pub mod missing_literals;
+pub mod moved_plans;
 mod patient_plans;
 pub mod pending_parts;
 pub mod plain_plans;

@@ -9,6 +9,7 @@ ghost use Rattle.obligations.specs.machine.WantedLiterals.{IsWanted, IsWantedUnd
 ghost use Rattle.past_state.specs.machine.GuardPlaces.{guards_at};
 ghost use Rattle.obligations.specs.meaning.Obligations.{Missing, Gathers};
 
+use crate::guarded_rows::rows_to_ask;
 use crate::leaves::{push_cause, push_suppress};
 use crate::literals::Literal;
 use crate::missing_first::misses_nothing;
@@ -63,8 +64,14 @@ pub fn push_missing<'a>(
             }
             push_missing(alloc, body, &*v, now, out)
         }
-        Plan::Guarded { guard, body, .. } => {
-            let rows = now.tables.told_under(alloc, *guard, now.ordered, &*v)?;
+        Plan::Guarded {
+            vars,
+            guard,
+            test,
+            body,
+            ..
+        } => {
+            let rows = rows_to_ask(alloc, vars, *guard, test, body, &*v, &*now)?;
             push_under(alloc, body, &rows, &*v, now, out)
         }
         Plan::Always { low, body, .. } => {

@@ -11,6 +11,7 @@ ghost use Rattle.past_state.specs.machine.GuardPlaces.{guards_at};
 ghost use Rattle.obligations.specs.meaning.Obligations.{Missing, Gathers};
 ghost use Rattle.obligations.specs.machine.FirstMissing.{FirstMissing, FirstOf};
 
+use crate::guarded_rows::rows_to_ask;
 use crate::laws::missing_exists;
 use crate::leaves::{cause_missing, is_there, suppress_missing};
 use crate::literals::Literal;
@@ -67,8 +68,14 @@ pub fn find_missing<'a>(
             }
             find_missing(alloc, body, &*v, now)
         }
-        Plan::Guarded { guard, body, .. } => {
-            let rows = now.tables.told_under(alloc, *guard, now.ordered, &*v)?;
+        Plan::Guarded {
+            vars,
+            guard,
+            test,
+            body,
+            ..
+        } => {
+            let rows = rows_to_ask(alloc, vars, *guard, test, body, &*v, &*now)?;
             find_under(alloc, body, &rows, &*v, now)
         }
         Plan::Always { low, body, .. } => {

@@ -12,7 +12,7 @@ ghost use Rattle.obligations.specs.machine.Cases.{PlanBegins, begun_at_5, begun_
 ghost use Rattle.obligations.specs.machine.Cases.{second_at_5, then_at, value_2, WaitingMisses, WaitingBecomes};
 ghost use Rattle.obligations.specs.machine.Cases.{WaitingOwes, PlanPends, IsRightAtOnce, IsRightThen, at_once_for};
 ghost use Rattle.obligations.specs.machine.Cases.{bar_p_where, then_for};
-ghost use Rattle.obligations.specs.machine.FallingNames.{IsFallingIn, SuppressesOwn};
+ghost use Rattle.obligations.specs.machine.MovedPlans.{IsUnmovedIn, LeavesRestIn};
 ghost use Rattle.enf_formula.specs.meaning.Satisfaction as tree;
 ghost use Rattle.plan_terms.specs.machine.Cases.{cause_p, each_soon, soon_q_x};
 ghost use Rattle.obligations.specs.meaning.Pending.{IsClean, IsReady, NoneIsOver, Pend};
@@ -288,17 +288,28 @@ pub fn needed()
     ensures no_rule { IsNeeded [] (at_5 []) 15 → ⊥ }
 {}
 
-/// Plans that miss nothing more where events p(..) go, and those that suppress just what their guard holds for.
-pub fn falling_plans()
-    ensures grows { IsFallingIn name_p (bar_p_where formula_p_x) }
-    ensures wanted { IsFallingIn name_p (cause_p 0) → ⊥ }
-    ensures denied { IsFallingIn name_p (bar_p_where (tree.Not 0 formula_p_x)) → ⊥ }
-    ensures tested { IsFallingIn name_p (plan.TestOr 0 0 formula_p (bar_q 1)) → ⊥ }
-    ensures own { SuppressesOwn name_p (bar_p_where formula_p_x) }
-    ensures own_of_two { SuppressesOwn name_p (bar_p_where (tree.And 0 formula_p_x (tree.Not 0 formula_q))) }
-    ensures looked_for_twice { SuppressesOwn name_p (bar_p_where (tree.And 0 formula_p_x formula_p_x)) → ⊥ }
-    ensures not_looked_for { SuppressesOwn name_p (bar_p_where formula_q) → ⊥ }
-    ensures another_suppressed { SuppressesOwn name_q (bar_p_where formula_q) → ⊥ }
+/// Plans that an action on p(..) does not move.
+pub fn unmoved_plans()
+    ensures fewer_rows { IsUnmovedIn kind.Suppress name_p (bar_p_where formula_p_x) }
+    ensures more_rows { IsUnmovedIn kind.Cause name_p (bar_p_where formula_p_x) → ⊥ }
+    ensures more_rows_denied { IsUnmovedIn kind.Suppress name_p (bar_p_where (tree.Not 0 formula_p_x)) → ⊥ }
+    ensures fewer_rows_denied { IsUnmovedIn kind.Cause name_p (plan.Guarded 0 [] 0 (tree.Not 0 formula_p) (bar_q 1)) }
+    ensures caused { IsUnmovedIn kind.Cause name_p (cause_p 0) }
+    ensures not_caused_any_more { IsUnmovedIn kind.Suppress name_p (cause_p 0) → ⊥ }
+    ensures test_holds_still { IsUnmovedIn kind.Cause name_p (plan.TestOr 0 0 formula_p (bar_q 1)) }
+    ensures test_fails_now { IsUnmovedIn kind.Suppress name_p (plan.TestOr 0 0 formula_p (bar_q 1)) → ⊥ }
+{}
+
+/// Plans that miss, after p(..) were suppressed, the rest of what they missed.
+pub fn left_plans()
+    ensures own { LeavesRestIn kind.Suppress name_p (bar_p_where formula_p_x) }
+    ensures own_of_two { LeavesRestIn kind.Suppress name_p
+        (bar_p_where (tree.And 0 formula_p_x (tree.Not 0 formula_q))) }
+    ensures looked_for_twice { LeavesRestIn kind.Suppress name_p (bar_p_where (tree.And 0 formula_p_x formula_p_x))
+        → ⊥ }
+    ensures not_looked_for { LeavesRestIn kind.Suppress name_p (bar_p_where formula_q) }
+    ensures not_where_caused { LeavesRestIn kind.Cause name_p (bar_p_where formula_p_x) → ⊥ }
+    ensures another_suppressed { LeavesRestIn kind.Suppress name_q (bar_p_where formula_q) → ⊥ }
 {}
 
 /// Which instances can be pending at a clock, after so many steps, and which numbers name an operator on the future.

@@ -1,7 +1,7 @@
 -- Columns of rows, and which rows under them survive.
 use Rattle.past_state.proofs.Vocabulary.{◌≡◌, ◌∙◌, ◌↔◌, inl, inr, ⊎_elim, ◌<◌, List, [], ◌∷◌, Contains, sym, subst, ranks, MatchOrdering, IsStrictlySortedBy, All-contains, All-after_first, Formula}
-use Rattle.past_state.proofs.Vocabulary.{AreFreeVariables, tree_of, same_free, Valuation, variable_cmp, BindsColumns, Event, VarId, AreOpen, HasKnownValues, BoundFormula, HoldsNow, none_in_nil}
-use Rattle.past_state.proofs.Vocabulary.{Relation, IsTable, HasValuation, Window, WindowKeeps, AnswersRows, AllComeFrom, AreSurvivors}
+use Rattle.past_state.proofs.Vocabulary.{AreFreeVariables, IsFree, tree_of, same_free, Valuation, variable_cmp, BindsColumns, Event, VarId, AreOpen, HasKnownValues, BoundFormula, HoldsNow}
+use Rattle.past_state.proofs.Vocabulary.{none_in_nil, Relation, IsTable, HasValuation, Window, WindowKeeps, AnswersRows, AllComeFrom, AreSurvivors}
 use Rattle.std.specs.declared.cmp.Ordering.TheVariants.{Less}
 use Rattle.past_state.specs.declared.left_sides.Left.TheVariants as side
 use Rattle.past_state.specs.declared.survivors.Survivors.TheVariants as told
@@ -46,9 +46,19 @@ surviving_in events tables guard window lasting surviving columns lasts survivin
 }
 
 -- and all but those under which it is denied
-pub failing_in : (events : List Event) (tables : List Relation) (guard : BoundFormula) (window : Window) (failing : Relation) → AnswersRows events tables guard window.columns failing
+pub failing_in : (events : List Event) (tables : List Relation) (guard : BoundFormula) (window : Window) (denied failing : Relation)
+    → ((x : VarId) → Contains denied.columns x → Contains window.columns x)
+    → ((v : Valuation) → BindsColumns v denied.columns → HasValuation denied v ↔ HoldsNow events tables v (tree_of guard.formula)) → failing.columns ≡ window.columns
+    → ((v : Valuation) → WindowKeeps window window.last v → HasValuation failing v ↔ HasValuation denied v)
     → AreSurvivors events tables (side.Denied guard) window (told.AllBut failing)
-failing_in events tables guard window failing answers = record {
-  fit = answers.columns_are;
-  exact = λ v binds keeps. (λ absent holds. absent ((answers.rows v binds).1 holds), λ fails there. fails ((answers.rows v binds).0 there));
+failing_in events tables guard window denied failing within rows columns found = record {
+  fit = columns;
+  exact = λ v binds keeps.
+      let same = found v keeps in
+      let tells = rows v (λ x there. binds x (within x there)) in
+      (λ absent holds. absent (same.1 (tells.1 holds)), λ fails there. fails (tells.0 (same.0 there)));
 }
+
+pub denied_within : (f : Formula) (denied : Relation) (columns : List VarId) → AreFreeVariables f denied.columns → ((x : VarId) → IsFree x f → Contains columns x)
+    → (x : VarId) → Contains denied.columns x → Contains columns x
+denied_within f denied columns opened free x there = free x ((opened.exact x).0 there)

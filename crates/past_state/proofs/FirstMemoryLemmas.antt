@@ -5,8 +5,9 @@ use Rattle.past_state.proofs.Vocabulary.{length-reverse, reverse-append, All-con
 use Rattle.past_state.proofs.Vocabulary.{VarId, all_front, Formula, True, False, Atom, Equal, Less, AtMost, Not, And, Or, Implies, Exists, Forall, Prev, Next, Once, Historically, Since, Eventually}
 use Rattle.past_state.proofs.Vocabulary.{Always, Until, IsFree, AreFreeVariables, tree_of, BoundFormula, outermost, BindsFresh, denial, none_in_nil, Slot, LastHasColumns, Window, CanKeep, IsAlone}
 use Rattle.past_state.proofs.Vocabulary.{PushesFor, GuardAsks, AsksLeft, IsFor, operators, inner, AreFor, Left, Memory, OperatorState}
-use Rattle.std.specs.Prelude.{true, false, IsTrue}
+use Rattle.std.specs.Prelude.{true, false, IsTrue, ◌↔◌, IfSome, Option, Some}
 use Rattle.past_state.proofs.ColumnLemmas.{after}
+use Rattle.past_state.specs.machine.Newcomers.{AsksInstead, AsksRight, BeginsWith}
 use Rattle.enf_data.specs.contracts.terms.VarIdPartialEq.TheImpl as variables
 use Rattle.past_state.specs.declared.left_sides.Left.TheVariants as side
 use Rattle.past_state.specs.declared.memories.Memory.TheVariants as memories
@@ -64,17 +65,42 @@ fresh_fewer (Always place interval g) S R fewer fresh = fresh_fewer g S R fewer 
 fresh_fewer (Until place interval g h) S R fewer fresh = (fresh_fewer g S R fewer fresh.0, fresh_fewer h S R fewer fresh.1)
 
 -- what is denied on the left is asked by itself
-pub asks_denied : (f g : Formula) (place : ℕ) (columns : List VarId) (guard : BoundFormula) → f ≡ Not place g → IsAlone g columns guard → BindsFresh f (λ x. Contains columns x ⊎ IsFree x f)
+pub asks_denied : (f g : Formula) (place : ℕ) (columns : List VarId) (guard : BoundFormula) → f ≡ Not place g → IsAlone g guard → BindsFresh f (λ x. Contains columns x ⊎ IsFree x f)
     → AsksLeft f columns (side.Denied guard)
 asks_denied f g place columns guard is alone fresh = (
   place,
   g,
   is,
   asks g [] guard g alone.formula_is refl alone.bound_is (fresh_fewer g (λ x. Contains columns x ⊎ IsFree x f) (λ x. Contains [] x ⊎ IsFree x g)
-      (λ x either. ⊎_elim (λ none. absurd (none_in_nil x none)) (λ free. inl ((alone.free.exact x).1 free)) either)
+      (λ x either. ⊎_elim (λ none. absurd (none_in_nil x none)) (λ free. inr (subst (IsFree x) (sym is) free)) either)
       (subst (λ h. BindsFresh h (λ x. Contains columns x ⊎ IsFree x f)) is fresh)),
-  alone.free,
 )
+
+-- what an operator begins with is asked in its place
+begun_fresh : (g begun : Formula) → BeginsWith g begun → (S : VarId → Type 0) → BindsFresh g S → BindsFresh begun S
+begun_fresh (Once place inner h) begun begins S fresh = subst (λ f. BindsFresh f S) begins.1 fresh
+begun_fresh (Since place inner f h) begun begins S fresh = subst (λ k. BindsFresh k S) begins.1 fresh.1
+begun_fresh g begun begins S fresh = absurd begins
+
+pub asks_begun : (g begun : Formula) (columns : List VarId) (guard : BoundFormula) → BeginsWith g begun → outermost begun ≡ [] → BindsFresh g (λ x. Contains [] x ⊎ IsFree x g)
+    → AreFreeVariables g columns → IsAlone begun guard → AreFreeVariables begun columns → AsksInstead (BeginsWith g) g guard
+asks_begun g begun columns guard begins present fresh free alone over = record {
+  other = begun;
+  serves = begins;
+  free = same;
+  present = present;
+  asks = asks begun [] guard begun alone.formula_is refl alone.bound_is (fresh_fewer begun (λ x. Contains [] x ⊎ IsFree x g) (λ x. Contains [] x ⊎ IsFree x begun)
+      (λ x either. ⊎_elim (λ none. inl none) (λ is. inr ((same x).0 is)) either) (begun_fresh g begun begins (λ x. Contains [] x ⊎ IsFree x g) fresh));
+}
+  where
+    same : (x : VarId) → IsFree x begun ↔ IsFree x g
+    same x = (λ is. (free.exact x).0 ((over.exact x).1 is), λ is. (over.exact x).0 ((free.exact x).1 is))
+
+pub some_begun : (g begun : Formula) (columns : List VarId) (found : Option BoundFormula) → BeginsWith g begun → BindsFresh g (λ x. Contains [] x ⊎ IsFree x g) → AreFreeVariables g columns
+    → IfSome found (IsAlone begun) → IfSome found (λ _. AreFreeVariables begun columns) → IfSome found (λ _. outermost begun ≡ [])
+    → IfSome found (AsksInstead (BeginsWith g) g)
+some_begun g begun columns None begins fresh free alone over present = tt
+some_begun g begun columns (Some guard) begins fresh free alone over present = asks_begun g begun columns guard begins present fresh free alone over
 
 -- ---- what is kept for one operator
 
@@ -84,7 +110,7 @@ for_prev place interval g slot operand columns is free asks =
     (asks, subst (λ s. AreFreeVariables g s.columns) (sym is) free, ap (λ s. s.interval) is, subst (λ s. LastHasColumns s.columns s.last) (sym is) tt)
 
 pub for_once : (place : ℕ) (interval : Interval) (g : Formula) (window : Window) (right : BoundFormula) (columns : List VarId) → window.interval ≡ interval → window.columns ≡ columns
-    → AreFreeVariables g columns → GuardAsks g [] right → IsFor (Once place interval g) (memories.Once window right)
+    → AreFreeVariables g columns → AsksRight interval g right → IsFor (Once place interval g) (memories.Once window right)
 for_once place interval g window right columns interval_is columns_are free asks = (asks, subst (AreFreeVariables g) (sym columns_are) free, interval_is)
 
 pub for_since : (place : ℕ) (interval : Interval) (g h : Formula) (window : Window) (left : Left) (left_tables : ℕ) (right : BoundFormula) (columns : List VarId)

@@ -4,9 +4,10 @@ use Rattle.past_state.proofs.Vocabulary.{All-contains, Contains-append_cases, Co
 use Rattle.past_state.proofs.Vocabulary.{Exists, Forall, Prev, Next, Once, Historically, Since, Eventually, Always, Until, tree_of, IsTabled, HasKnownValues, BoundFormula, denial, IsArgument}
 use Rattle.past_state.proofs.Vocabulary.{IsFormulaConstant, tabled_behind, later, first_or_later, none_in_nil, Relation, window_given, given_from, given_last_from, Stores, pair, Window, KeptPair}
 use Rattle.past_state.proofs.Vocabulary.{IsConstantOf, IsKeptValue, IsKnownOfGuard, TablesAreKnown, AnswersRows, IsFor, AreStepTables, memory_given, operators, all_operators, PastTables}
-use Rattle.past_state.proofs.Vocabulary.{formulas_of_guards, guard_formula, tables_of, AreFor, Runs, StoresFor, kept_row, survives_by, PlacedGuard, Memory, StepTables, OperatorState}
-use Rattle.past_state.proofs.PastLemmas.{OfGuard, all_reverse, same_guard}
+use Rattle.past_state.proofs.Vocabulary.{formulas_of_guards, guard_formula, AreFor, Runs, StoresFor, kept_row, survives_by, PlacedGuard, Memory, StepTables, OperatorState, Interval}
+use Rattle.past_state.proofs.PastLemmas.{OfGuard, all_reverse, at_guard}
 use Rattle.past_state.proofs.SavedLemmas.{counted_back}
+use Rattle.past_state.specs.machine.Newcomers.{AsksRight, BeginsWith}
 use Rattle.past_state.specs.declared.memories.Memory.TheVariants as memories
 
 -- ---- constants
@@ -15,6 +16,11 @@ denial_constant : (g : Formula) (value : Value) → IsFormulaConstant value (den
 denial_constant (Not place h) value is = is
 denial_constant (Implies place a b) value is = is
 denial_constant g value is = is
+
+begun_constant : (g begun : Formula) → BeginsWith g begun → (value : Value) → IsFormulaConstant value begun → IsFormulaConstant value g
+begun_constant (Once place inner h) begun begins value is = subst (IsFormulaConstant value) (sym begins.1) is
+begun_constant (Since place inner f h) begun begins value is = inr (subst (IsFormulaConstant value) (sym begins.1) is)
+begun_constant g begun begins value is = absurd begins
 
 -- a constant of an operator in a formula is one of the formula
 constant_up : (g f : Formula) → Contains (operators g) f → (value : Value) → IsFormulaConstant value f → IsFormulaConstant value g
@@ -86,6 +92,13 @@ module _ (events : List Event) (S : Value → Type 0) (argument : (value : Value
   right_known stack f guard columns t is tabled constant answers row there value inside =
       ⊎_elim (argument value) (λ either. ⊎_elim (tabled value) (λ c. constant value (subst (IsFormulaConstant value) is c)) either) (answers.known row there value inside)
 
+  asked_known : (stack : List Relation) (interval : Interval) (f : Formula) (guard : BoundFormula) (columns : List VarId) (t : Relation) → AsksRight interval f guard
+      → ((value : Value) → IsTabled stack value → S value) → ((value : Value) → IsFormulaConstant value f → S value)
+      → AnswersRows events stack guard columns t → AllSuch t
+  asked_known stack interval f guard columns t asks tabled constant answers =
+      ⊎_elim (λ whole. right_known stack f guard columns t whole.formula_is tabled constant answers)
+      (λ new. right_known stack new.1.other guard columns t new.1.asks.formula_is tabled (λ value is. constant value (begun_constant f new.1.other new.1.serves value is)) answers) asks
+
   window_known : (window : Window) (time : ℕ) (t : StepTables) → AllSuch t.right → ((p : KeptPair) → Stores window p.row p.time → (value : Value) → Contains p.row value → S value)
       → AllSuch (window_given window time (survives_by t.surviving) t.right)
   window_known window time t right keeps row there value inside =
@@ -97,9 +110,9 @@ module _ (events : List Event) (S : Value → Type 0) (argument : (value : Value
       let from = given_last_from slot time row there in
       keeps (pair row from.0) from.1 value inside
   given_known (Once place interval g) (memories.Once window right) stack time t for are tabled constant keeps =
-      window_known window time t (right_known stack g right window.columns t.right for.0.formula_is tabled constant are.0) keeps
+      window_known window time t (asked_known stack interval g right window.columns t.right for.0 tabled constant are.0) keeps
   given_known (Historically place interval g) (memories.Once window right) stack time t for are tabled constant keeps =
-      window_known window time t (right_known stack (denial g) right window.columns t.right for.0.formula_is tabled (λ value is. constant value (denial_constant g value is)) are.0) keeps
+      window_known window time t (asked_known stack interval (denial g) right window.columns t.right for.0 tabled (λ value is. constant value (denial_constant g value is)) are.0) keeps
   given_known (Since place interval g h) (memories.Since window left left_tables right) stack time t for are tabled constant keeps =
       window_known window time t
       (right_known (drop left_tables stack) h right window.columns t.right for.0.formula_is (λ value is. tabled value (tabled_behind left_tables stack value is))
@@ -138,6 +151,4 @@ are_known past time events tables is are =
 
 pub known_of_guard : (tables : PastTables) (number : ℕ) (g : PlacedGuard) (past : List Relation) (events : List Event) (v : Valuation) (t : Relation) → OfGuard tables number g past
     → HasKnownValues events (past) (guard_formula g) g.guard.bound v t → IsKnownOfGuard tables number events v t
-known_of_guard tables number g past events v t asked known h is =
-    subst (λ k. HasKnownValues events (tables_of k tables) (guard_formula k) k.guard.bound v t) (same_guard tables.guards number g h asked.is is)
-    (subst (λ l. HasKnownValues events l (guard_formula g) g.guard.bound v t) asked.part known)
+known_of_guard tables number g past events v t asked known = at_guard tables number g past asked (λ l f bound. HasKnownValues events l f bound v t) known

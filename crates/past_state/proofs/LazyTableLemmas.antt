@@ -5,6 +5,8 @@ use Rattle.past_state.proofs.Vocabulary.{All-nil, All-tail, All-take, get_or_fro
 use Rattle.past_state.proofs.Vocabulary.{Since, FirstGivesUnder, FirstHas, Relation, HasValuation, AgreesWhereBound, window_given, Window, AnswersBy, SurvivesFor, Surviving, CanAnswer, CanAnswerAt}
 use Rattle.past_state.proofs.Vocabulary.{CanAskEach, LastFits, table_at, table_of_step, tables_at, IsFor, AreStepTables, IsUpToTimeOf, memory_given, AreOrderedOperators, AreUpToTimeOf, Runs}
 use Rattle.past_state.proofs.Vocabulary.{SurvivorsFit, IsViewOf, survives_by, Memory, StepTables, OperatorState}
+use Rattle.enf_data.specs.meaning.Valuations.{BindsColumns}
+use Rattle.monitorable_guard.specs.machine.Evaluation.{FirstHasUnder}
 use Rattle.past_state.proofs.MemoryLemmas.{step_fits}
 use Rattle.past_state.proofs.OperatorRunLemmas.{at, ready, run_at}
 use Rattle.past_state.proofs.StackLemmas.{stack_below}
@@ -21,6 +23,11 @@ pub first_gives : (tables : List Relation) (k : ℕ) (t : Relation) (v : Valuati
 first_gives tables k t v rows below is columns exact =
     subst (λ l. FirstGivesUnder l v rows) (sym (drop-cons tables k t below))
     (subst (λ s. (rows.columns ≡ s.columns) × ((w : Valuation) → HasValuation rows w ↔ (HasValuation s w × AgreesWhereBound s.columns v w))) (sym is) (columns, exact))
+
+pub first_has_under : (tables : List Relation) (k : ℕ) (t : Relation) (v : Valuation) (B : Type 0) → k < length tables → get_or tables k t ≡ t → B ↔ FirstHasUnder (t ∷ []) v
+    → B ↔ FirstHasUnder (drop k tables) v
+first_has_under tables k t v B below is told =
+    subst (λ l. B ↔ FirstHasUnder l v) (sym (drop-cons tables k t below)) (subst (λ s. B ↔ FirstHasUnder (s ∷ []) v) (sym is) told)
 
 -- ---- what one operator answers
 
@@ -39,6 +46,16 @@ pub window_rows : (window : Window) (time : ℕ) (t : StepTables) (view : Surviv
 window_rows window time t view w B A fit same is told =
     let gives = window_gives window time t.surviving t.right fit same w in
     iff_then (by_view (λ S. B ↔ (AnswersBy window time S t.right w × A)) t.surviving view is told) (λ both. (gives.1 both.0, both.1), λ both. (gives.0 both.0, both.1))
+
+pub window_some : (window : Window) (time : ℕ) (t : StepTables) (view : Surviving) (v : Valuation) (B : Type 0) → SurvivorsFit window.columns t.surviving → t.right.columns
+    ≡ window.columns → IsViewOf t.surviving view
+    → B ↔ ((w : Valuation) × BindsColumns w window.columns × AnswersBy window time (SurvivesFor view) t.right w × AgreesWhereBound window.columns v w)
+    → B ↔ FirstHasUnder (window_given window time (survives_by t.surviving) t.right ∷ []) v
+window_some window time t view v B fit same is told =
+    let gives = window_gives window time t.surviving t.right fit same in
+    iff_then
+    (by_view (λ S. B ↔ ((w : Valuation) × BindsColumns w window.columns × AnswersBy window time S t.right w × AgreesWhereBound window.columns v w)) t.surviving view is told)
+    (λ some. (some.0, some.1, (gives some.0).1 some.2, some.3), λ some. (some.0, some.1, (gives some.0).0 some.2, some.3))
 
 pub last_fits : (f : Formula) (m : Memory) → IsFor f m → LastFits m
 last_fits (Prev place interval g) (memories.Prev slot operand) for = for.3

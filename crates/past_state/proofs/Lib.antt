@@ -1,4 +1,5 @@
 pub mod Vocabulary
+pub mod BegunLemmas
 pub mod BoundsLemmas
 pub mod CaseLemmas
 pub mod ChosenLemmas

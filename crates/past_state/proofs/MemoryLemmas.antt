@@ -1,12 +1,16 @@
 -- What is kept for an operator, with one step more.
-use Rattle.past_state.proofs.Vocabulary.{◌≡◌, ◌∙◌, ◌↔◌, ◌⊎◌, inr, ℕ, ◌≤◌, IsTrue, List, [], ◌∷◌, ◌++◌, length, drop, Contains, refl, sym, subst, IsSome, and_parts, Valuation, value_at, BindsColumns}
-use Rattle.past_state.proofs.Vocabulary.{Event, Interval, Step, VarId, iff_then as then, step_at_end, Formula, Not, Implies, Prev, Once, Historically, Since, IsFree, AreFreeVariables, Sat, tree_of}
-use Rattle.past_state.proofs.Vocabulary.{is_past, BindsFresh, FitOperators, BoundFormula, HoldsNow, TablesStandFor, TableStandsFor, Tabled, outermost, PresentIsSatisfied, denial, fit_short, last_time}
-use Rattle.past_state.proofs.Vocabulary.{Relation, HasValuation, given_by_slot, given_last_answers, LastHasColumns, Window, AreTablesOf, SinceAnswers, SinceGoesOn, OnceAnswers, OnceGoesOn}
-use Rattle.past_state.proofs.Vocabulary.{HistoricallyIsDenied, PrevAnswers, PrevGoesOn, satisfied, everywhere, GuardAsks, CanAskRows, CanAskRowsUnder, AnswersRows, AsksLeft, AreSurvivors, CanAskLeft}
-use Rattle.past_state.proofs.Vocabulary.{LeftHolds, IsFor, CanStep, AreStepTables, FitMemory, MemoryStands, IsCommittedTo, IsSameMemory, memory_given, inner, ValuationSurvives, SurvivorsFit, Left}
-use Rattle.past_state.proofs.Vocabulary.{Memory, StepTables}
+use Rattle.past_state.proofs.Vocabulary.{◌≡◌, ◌∙◌, ◌↔◌, ◌⊎◌, inr, ⊎_elim, ℕ, ◌≤◌, IsTrue, List, [], ◌∷◌, ◌++◌, length, drop, Contains, refl, sym, subst, IsSome, and_parts, Valuation, value_at}
+use Rattle.past_state.proofs.Vocabulary.{BindsColumns, Event, Interval, Step, VarId, iff_then as then, step_at_end, Formula, Not, Implies, Prev, Once, Historically, Since, IsFree, AreFreeVariables}
+use Rattle.past_state.proofs.Vocabulary.{Sat, tree_of, is_past, BindsFresh, FitOperators, BoundFormula, HoldsNow, TablesStandFor, TableStandsFor, Tabled, outermost, PresentIsSatisfied, denial}
+use Rattle.past_state.proofs.Vocabulary.{fit_short, last_time, Relation, HasValuation, given_by_slot, given_last_answers, LastHasColumns, Window, AreTablesOf, SinceAnswers, SinceGoesOn, OnceAnswers}
+use Rattle.past_state.proofs.Vocabulary.{OnceGoesOn, HistoricallyIsDenied, PrevAnswers, PrevGoesOn, satisfied, everywhere, GuardAsks, CanAskRows, CanAskRowsAmong, CanAskRowsUnder, AnswersRows}
+use Rattle.past_state.proofs.Vocabulary.{AsksLeft, AreSurvivors, CanAskLeft, LeftHolds, IsFor, CanStep, AreStepTables, FitMemory, MemoryStands, IsCommittedTo, IsSameMemory, memory_given, inner}
+use Rattle.past_state.proofs.Vocabulary.{ValuationSurvives, SurvivorsFit, Left, Memory, StepTables}
+use Rattle.past_state.proofs.BegunLemmas.{begun_past}
 use Rattle.past_state.proofs.SurvivorLemmas.{window_gives}
+use Rattle.past_state.specs.machine.Laws.{BegunAnswers, BegunGoesOn, OnceStands}
+use Rattle.past_state.specs.machine.Newcomers.{AsksInstead, AsksRight, BeginsWith}
+use Rattle.windows.specs.machine.Windows.{AnswersBy, IsCommittedBy}
 use Rattle.past_state.specs.declared.left_sides.Left.TheVariants as side
 use Rattle.past_state.specs.declared.survivors.Survivors.TheVariants as told
 use Rattle.past_state.specs.declared.memories.Memory.TheVariants as memories
@@ -70,17 +74,39 @@ can_ask_under f columns guard tables asks free fit = record {
   tabled = subst (λ h. FitOperators (outermost h) tables) (sym asks.formula_is) fit;
 }
 
+can_ask_among : (f : Formula) (columns : List VarId) (guard : BoundFormula) (tables : List Relation) → GuardAsks f [] guard → ((x : VarId) → IsFree x f → Contains columns x)
+    → FitOperators (outermost f) tables → CanAskRowsAmong guard columns tables
+can_ask_among f columns guard tables asks free fit = record {
+  bound = asks.bound_is;
+  free = λ x is. free x (subst (IsFree x) asks.formula_is is);
+  fresh = subst (λ h. BindsFresh h (λ x. Contains guard.bound x ⊎ IsFree x h)) (sym asks.formula_is) (subst (λ b. BindsFresh f (λ x. Contains b x ⊎ IsFree x f)) (sym asks.bound_is) asks.fresh);
+  tabled = subst (λ h. FitOperators (outermost h) tables) (sym asks.formula_is) fit;
+}
+
 can_ask_left : (f : Formula) (columns : List VarId) (left : Left) (tables : List Relation) → AsksLeft f columns left → ((x : VarId) → IsFree x f → Contains columns x)
     → FitOperators (outermost f) tables → CanAskLeft columns tables left
 can_ask_left f columns side.All tables asks free fit = tt
-can_ask_left f columns (side.Denied guard) tables asks free fit = can_ask_all asks.1 columns guard tables asks.3 asks.4 (subst (λ g. FitOperators (outermost g) tables) asks.2 fit)
+can_ask_left f columns (side.Denied guard) tables asks free fit =
+    can_ask_among asks.1 columns guard tables asks.3 (λ x there. free x (subst (IsFree x) (sym asks.2) there)) (subst (λ g. FitOperators (outermost g) tables) asks.2 fit)
 can_ask_left f columns (side.ByRow guard) tables asks free fit = can_ask_under f columns guard tables asks free fit
+
+free_instead : (f other : Formula) (columns : List VarId) → ((x : VarId) → IsFree x other ↔ IsFree x f) → AreFreeVariables f columns → AreFreeVariables other columns
+free_instead f other columns same free = record {
+  rising = free.rising;
+  exact = λ x. (λ there. (same x).1 ((free.exact x).0 there), λ is. (free.exact x).1 ((same x).0 is));
+}
+
+can_ask_right : (interval : Interval) (f : Formula) (columns : List VarId) (guard : BoundFormula) (tables : List Relation) → AsksRight interval f guard → AreFreeVariables f columns
+    → FitOperators (outermost f) tables → CanAskRows guard columns tables
+can_ask_right interval f columns guard tables asks free fit =
+    ⊎_elim (λ whole. can_ask_all f columns guard tables whole free fit)
+    (λ new. can_ask_all new.1.other columns guard tables new.1.asks (free_instead f new.1.other columns new.1.free free) (subst (λ l. FitOperators l tables) (sym new.1.present) tt)) asks
 
 pub can_step : (f : Formula) (m : Memory) (tables : List Relation) → IsFor f m → FitOperators (inner f) tables → CanStep tables m
 can_step (Prev place interval g) (memories.Prev slot operand) tables for fit = can_ask_all g slot.columns operand tables for.0 for.1 fit
-can_step (Once place interval g) (memories.Once window right) tables for fit = can_ask_all g window.columns right tables for.0 for.1 fit
+can_step (Once place interval g) (memories.Once window right) tables for fit = can_ask_right interval g window.columns right tables for.0 for.1 fit
 can_step (Historically place interval g) (memories.Once window right) tables for fit =
-    can_ask_all (denial g) window.columns right tables for.0 for.1 (subst (λ l. FitOperators l tables) (sym (denial_outermost g)) fit)
+    can_ask_right interval (denial g) window.columns right tables for.0 for.1 (subst (λ l. FitOperators l tables) (sym (denial_outermost g)) fit)
 can_step (Since place interval g h) (memories.Since window left left_tables right) tables for fit = (
   subst (λ n. CanAskRows right window.columns (drop n tables)) (sym for.4)
       (can_ask_all h window.columns right (drop (length (outermost g)) tables) for.0 for.1 (fit_back (outermost g) (outermost h) tables fit)),
@@ -105,6 +131,8 @@ pub record Laws : Type 0 where
   pub once_answers : OnceAnswers
   pub once_goes_on : OnceGoesOn
   pub denied : HistoricallyIsDenied
+  pub begun_answers : BegunAnswers
+  pub begun_goes_on : BegunGoesOn
   pub prev_answers : PrevAnswers
   pub prev_goes_on : PrevGoesOn
 
@@ -137,6 +165,35 @@ module _ (laws : Laws) (trace : List Step) (step : Step) (later : last_time trac
     survives = λ v binds keeps. subst (λ s. ValuationSurvives s v ↔ everywhere v (length trace)) (sym all) (λ h. h, λ h. h);
     is_right = is_answer g right tables window.columns t.right asks free past stand answers;
   }
+
+  -- so too where only what is new is asked for
+  begun_tables : (g : Formula) (interval : Interval) (window : Window) (right : BoundFormula) (tables : List Relation) (t : StepTables) (new : AsksInstead (BeginsWith g) g right)
+      → AreFreeVariables g window.columns → IsTrue (is_past g) → AnswersRows step.events tables right window.columns t.right → t.surviving ≡ told.All
+      → AreTablesOf trace window everywhere (satisfied (trace ++ step ∷ []) new.other) t.surviving t.right
+  begun_tables g interval window right tables t new free past answers all =
+      once_tables new.other interval window right tables t new.asks (free_instead g new.other window.columns new.free free) (begun_past g new.other new.serves past)
+      (subst (λ l. TablesStandFor (trace ++ step ∷ []) (length trace) l tables) (sym new.present) tt) answers all
+
+  once_answered : (place : ℕ) (g : Formula) (interval : Interval) (window : Window) (right : BoundFormula) (tables : List Relation) (t : StepTables) → AsksRight interval g right
+      → AreFreeVariables g window.columns → IsTrue (is_past g) → OnceStands trace interval g window
+      → TablesStandFor (trace ++ step ∷ []) (length trace) (outermost g) tables → AnswersRows step.events tables right window.columns t.right → t.surviving ≡ told.All
+      → (v : Valuation) → BindsColumns v window.columns
+      → AnswersBy window step.time (ValuationSurvives t.surviving) t.right v ↔ Sat (trace ++ step ∷ []) (length trace) v (Once place interval g)
+  once_answered place g interval window right tables t asks free past stands inside answers all v binds =
+      ⊎_elim
+      (λ whole. laws.once_answers trace step place interval g window t.surviving t.right past later stands (once_tables g interval window right tables t whole free past inside answers all) v binds)
+      (λ new. laws.begun_answers trace step place interval g new.1.other window t.surviving t.right past later new.0 new.1.serves stands
+      (begun_tables g interval window right tables t new.1 free past answers all) v binds) asks
+
+  once_committed : (g : Formula) (interval : Interval) (window after : Window) (right : BoundFormula) (tables : List Relation) (t : StepTables) → AsksRight interval g right
+      → AreFreeVariables g window.columns → IsTrue (is_past g) → OnceStands trace interval g window
+      → TablesStandFor (trace ++ step ∷ []) (length trace) (outermost g) tables → AnswersRows step.events tables right window.columns t.right → t.surviving ≡ told.All
+      → IsCommittedBy window step.time (ValuationSurvives t.surviving) t.right after → OnceStands (trace ++ step ∷ []) interval g after
+  once_committed g interval window after right tables t asks free past stands inside answers all committed =
+      ⊎_elim
+      (λ whole. laws.once_goes_on trace step interval g window t.surviving t.right past later stands (once_tables g interval window right tables t whole free past inside answers all) after committed)
+      (λ new. laws.begun_goes_on trace step interval g new.1.other window t.surviving t.right past later new.0 new.1.serves stands
+      (begun_tables g interval window right tables t new.1 free past answers all) after committed) asks
 
   -- what is asked of the left side is what is satisfied
   left_satisfied : (g : Formula) (left : Left) (columns : List VarId) (tables : List Relation) → AsksLeft g columns left → IsTrue (is_past g)
@@ -183,14 +240,14 @@ module _ (laws : Laws) (trace : List Step) (step : Step) (later : last_time trac
       let fit = step_fits step.events tables (memories.Once window right) t are in
       stands_by _ window.columns (memory_given (memories.Once window right) step.time t) refl (λ x there. (for.1.exact x).0 there)
       (λ v binds. then (window_gives window step.time t.surviving t.right fit.0 fit.1 v)
-      (laws.once_answers trace step place interval g window t.surviving t.right past later stands (once_tables g interval window right tables t for.0 for.1 past inside are.0 are.1) v binds))
+      (once_answered place g interval window right tables t for.0 for.1 past stands inside are.0 are.1 v binds))
   given_stands (Historically place interval g) (memories.Once window right) tables t past for stands inside are =
       let past' = denial_past g past in
       let fit = step_fits step.events tables (memories.Once window right) t are in
       stands_by _ window.columns (memory_given (memories.Once window right) step.time t) refl (λ x there. (denial_free g x).0 ((for.1.exact x).0 there))
       (λ v binds. then (window_gives window step.time t.surviving t.right fit.0 fit.1 v) (then
-      (laws.once_answers trace step place interval (denial g) window t.surviving t.right past' later stands (once_tables (denial g) interval window right tables t for.0 for.1 past'
-      (subst (λ l. TablesStandFor (trace ++ step ∷ []) (length trace) l tables) (sym (denial_outermost g)) inside) are.0 are.1) v binds)
+      (once_answered place (denial g) interval window right tables t for.0 for.1 past' stands
+      (subst (λ l. TablesStandFor (trace ++ step ∷ []) (length trace) l tables) (sym (denial_outermost g)) inside) are.0 are.1 v binds)
       (let d = laws.denied (trace ++ step ∷ []) (length trace) v place interval g in (d.1, d.0))))
   given_stands (Since place interval g h) (memories.Since window left left_tables right) tables t past for stands inside are =
       let pasts = and_parts (is_past g) (is_past h) past in
@@ -210,12 +267,12 @@ module _ (laws : Laws) (trace : List Step) (step : Step) (later : last_time trac
       (laws.prev_goes_on trace step interval g slot t.right stands are.columns_are (is_answer g operand tables slot.columns t.right for.0 for.1 past inside are))
   committed_stands (Once place interval g) (memories.Once window right) tables t after past for stands inside are committed =
       subst (MemoryStands (trace ++ step ∷ []) (Once place interval g)) (sym committed.2)
-      (laws.once_goes_on trace step interval g window t.surviving t.right past later stands (once_tables g interval window right tables t for.0 for.1 past inside are.0 are.1) committed.0 committed.1)
+      (once_committed g interval window committed.0 right tables t for.0 for.1 past stands inside are.0 are.1 committed.1)
   committed_stands (Historically place interval g) (memories.Once window right) tables t after past for stands inside are committed =
       let past' = denial_past g past in
       subst (MemoryStands (trace ++ step ∷ []) (Historically place interval g)) (sym committed.2)
-      (laws.once_goes_on trace step interval (denial g) window t.surviving t.right past' later stands (once_tables (denial g) interval window right tables t for.0 for.1 past'
-      (subst (λ l. TablesStandFor (trace ++ step ∷ []) (length trace) l tables) (sym (denial_outermost g)) inside) are.0 are.1) committed.0 committed.1)
+      (once_committed (denial g) interval window committed.0 right tables t for.0 for.1 past' stands
+      (subst (λ l. TablesStandFor (trace ++ step ∷ []) (length trace) l tables) (sym (denial_outermost g)) inside) are.0 are.1 committed.1)
   committed_stands (Since place interval g h) (memories.Since window left left_tables right) tables t after past for stands inside are committed =
       let pasts = and_parts (is_past g) (is_past h) past in
       subst (MemoryStands (trace ++ step ∷ []) (Since place interval g h)) (sym committed.2)

@@ -7,7 +7,9 @@ use Rattle.past_state.proofs.Vocabulary.{CanEvaluate, FitOperators, AreHoldingRo
 use Rattle.past_state.proofs.Vocabulary.{HasValuation, AgreeOnColumns, last_time, memory_given, operators, all_operators, all_outermost, Past, PastTables, IsPast, IsSoundGuard, TablesStand}
 use Rattle.past_state.proofs.Vocabulary.{TablesStay, TablesWillStand, GuardsWillHold, AreMadeOf, AreTablesAtStep, PastCommitted, PastStands, RunStands, CommitStands, AreEvaluated, AreSatisfied}
 use Rattle.past_state.proofs.Vocabulary.{ArePastTables, HasOpenColumns, BeginAt, BindsBound, IsEvaluated, IsGuard, IsSatisfied, IsTestOf, formulas_of_guards, guard_formula, past_names, tables_of}
-use Rattle.past_state.proofs.Vocabulary.{AllStand, AreInsideOut, AreOrderedOperators, AllMemoriesFit, Runs, AreSameKinds, PlacedGuard, StepTables, OperatorState}
+use Rattle.past_state.proofs.Vocabulary.{AllStand, AreInsideOut, AreOrderedOperators, AllMemoriesFit, Runs, AreSameKinds, PlacedGuard, StepTables, OperatorState, VarId}
+use Rattle.monitorable_guard.specs.machine.Evaluation.{AreHoldingRowsIn}
+use Rattle.past_state.specs.machine.Past.{AreEvaluatedIn}
 use Rattle.past_state.proofs.OuterOperators.{outer_onto}
 use Rattle.past_state.proofs.MemoryLemmas.{Laws, fit_back, fit_front, stand_back, stand_front, step_fits}
 use Rattle.past_state.proofs.OrderLemmas.{all_go}
@@ -262,15 +264,26 @@ can_evaluate tables number g past v asked binds = record {
 pub same_guard : (guards : List PlacedGuard) (number : ℕ) (g h : PlacedGuard) → IsGuard guards number g → IsGuard guards number h → g ≡ h
 same_guard guards number g h a b = same_Some g h (sym a ∙ b)
 
+-- what holds of the guard holds of what has its number
+pub at_guard : (tables : PastTables) (number : ℕ) (g : PlacedGuard) (past : List Relation) → OfGuard tables number g past
+    → (P : List Relation → Formula → List VarId → Type 0) → P past (guard_formula g) g.guard.bound
+    → (h : PlacedGuard) → IsGuard tables.guards number h → P (tables_of h tables) (guard_formula h) h.guard.bound
+at_guard tables number g past asked P holds h is =
+    subst (λ k. P (tables_of k tables) (guard_formula k) k.guard.bound) (same_guard tables.guards number g h asked.is is)
+    (subst (λ l. P l (guard_formula g) g.guard.bound) asked.part holds)
+
 pub are_open : (tables : PastTables) (number : ℕ) (g : PlacedGuard) (past : List Relation) (t : Relation) → OfGuard tables number g past → AreOpen (guard_formula g) g.guard.bound t.columns
     → HasOpenColumns tables number t
 are_open tables number g past t asked opened h is = subst (λ k. AreOpen (guard_formula k) k.guard.bound t.columns) (same_guard tables.guards number g h asked.is is) opened
 
 pub are_evaluated : (tables : PastTables) (number : ℕ) (g : PlacedGuard) (past : List Relation) (events : List Event) (v : Valuation) (t : Relation) → OfGuard tables number g past
     → AreHoldingRows events (past) (guard_formula g) g.guard.bound v t → AreEvaluated tables number events v t
-are_evaluated tables number g past events v t asked holds h is =
-    subst (λ k. AreHoldingRows events (tables_of k tables) (guard_formula k) k.guard.bound v t) (same_guard tables.guards number g h asked.is is)
-    (subst (λ l. AreHoldingRows events l (guard_formula g) g.guard.bound v t) asked.part holds)
+are_evaluated tables number g past events v t asked holds = at_guard tables number g past asked (λ l f bound. AreHoldingRows events l f bound v t) holds
+
+pub are_evaluated_in : (within : Relation) (tables : PastTables) (number : ℕ) (g : PlacedGuard) (past : List Relation) (events : List Event) (v : Valuation) (t : Relation)
+    → OfGuard tables number g past → AreHoldingRowsIn within events (past) (guard_formula g) g.guard.bound v t → AreEvaluatedIn within tables number events v t
+are_evaluated_in within tables number g past events v t asked holds =
+    at_guard tables number g past asked (λ l f bound. AreHoldingRowsIn within events l f bound v t) holds
 
 pub are_satisfied : PresentIsSatisfied → (tables : PastTables) (number : ℕ) (g : PlacedGuard) (past : List Relation) (events : List Event) (v : Valuation) (t : Relation) → OfGuard tables number g past
     → BindsBound tables.guards number v → AreOpen (guard_formula g) g.guard.bound t.columns → AreHoldingRows events (past) (guard_formula g) g.guard.bound v t

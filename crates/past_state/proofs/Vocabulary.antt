@@ -82,7 +82,7 @@ pub use Rattle.past_state.specs.machine.LazyTables.{CanAnswer, CanAnswerAt, CanA
 pub use Rattle.past_state.specs.machine.LeftSides.{AreSurvivors, AsksLeft, CanAskLeft, LeftHolds}
 pub use Rattle.past_state.specs.machine.Memories.{AreStepTables, CanStep, FitMemory, IsCommittedTo, IsFor, IsSameMemory, IsUpToTimeOf, MemoryStands, columns_of, memory_given}
 pub use Rattle.past_state.specs.machine.MemoryTimes.{IsAtLast, IsUpToLast, last_or_zero}
-pub use Rattle.past_state.specs.machine.OperandQueries.{AllComeFrom, AnswersRows, CanAskRows, CanAskRowsUnder, GuardAsks}
+pub use Rattle.past_state.specs.machine.OperandQueries.{AllComeFrom, AnswersRows, CanAskRows, CanAskRowsAmong, CanAskRowsUnder, GuardAsks}
 pub use Rattle.past_state.specs.machine.OperatorMeaning.{HeldAt, WindowStands}
 pub use Rattle.past_state.specs.machine.OperatorRuns.{AllCommitted, AllMemoriesFit, AllStand, AreFor, AreInsideOut, AreOrderedOperators, AreSameKinds, AreUpToTimeOf, OneCommitted, Runs}
 pub use Rattle.past_state.specs.machine.Past.{AreEvaluated, AreMadeOf, ArePastTables, AreSatisfied, AreTablesAtStep, BeginAt, BindsBound, CommitStands, GuardsWillHold, HasOpenColumns, IsEvaluated}

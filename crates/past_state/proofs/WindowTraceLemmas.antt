@@ -15,7 +15,7 @@ pub same_everywhere : (trace : List Step) (k : ℕ) → k < length trace → Hol
 same_everywhere trace k below = (λ h. h, λ h. h)
 
 -- what held up to the last position, from its time, is what held since there
-held_since : (trace : List Step) (step : Step) (interval : Interval) (F G : ℕ → Type 0)
+pub held_since : (trace : List Step) (step : Step) (interval : Interval) (F G : ℕ → Type 0)
     → HeldAt (trace ++ step ∷ []) interval step.time F G ↔ HeldSince (trace ++ step ∷ []) (length trace) interval F G
 held_since trace step interval F G = (
   λ held none. held (λ h. none (
@@ -67,7 +67,8 @@ module _ (kept : RememberedIsKept) (chosen : LeastIsChosen) (last : LastIsTheNew
       → (time : ℕ) → HasRow after v time ↔ KeptAt (trace ++ step ∷ []) window.interval (F' v) (G' v) time
   keeps_on after v committed binds =
       let held = subst (λ i. (time : ℕ) → HasRow window v time ↔ KeptAt trace i (F v) (G v) time) (sym stands.interval_is) (stands.kept v binds) in
-      kept_on chosen trace step (F v) (G v) (F' v) (G' v) (same_F v) (same_G v) (last trace step) later window after (ValuationSurvives survivors) right v committed held
+      kept_on chosen trace step (F v) (G v) (F' v) (G' v) (same_F v) (same_G v) (last trace step) later window after (ValuationSurvives survivors v) (HasValuation right v) v
+      committed.interval_is committed.last_is committed.least (committed.from v) (committed.serves v) held
       (λ time has. tables.survives v binds (kept_now (last_time trace) (HasPairAt trace (F v) (G v)) window v time has stands.up_to ((held time).0 has).1)) (tables.is_right v binds)
 
   pub still_stands : (after : Window) → IsCommittedBy window step.time (ValuationSurvives survivors) right after → WindowStands (trace ++ step ∷ []) interval F' G' g after

@@ -5,6 +5,7 @@ pub mod Survivors
 pub mod Laws
 pub mod OperandQueries
 pub mod LeftSides
+pub mod Newcomers
 pub mod Memories
 pub mod OperatorRuns
 pub mod Past

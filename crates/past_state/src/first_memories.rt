@@ -2,7 +2,7 @@
 ghost use Rattle.std.specs.Prelude.{◌≡◌, [], ◌∷◌, ◌⊎◌, ◌++◌, IfOk, IfSome, All, ℕ, length};
 ghost use Rattle.std.specs.Prelude.{reverse, Contains};
 ghost use Rattle.enf_formula.specs.machine.FormulaViews.{tree_of};
-ghost use Rattle.enf_formula.specs.meaning.Satisfaction.{IsFree};
+ghost use Rattle.enf_formula.specs.meaning.Satisfaction.{AreFreeVariables, IsFree};
 ghost use Rattle.enf_data.specs.declared.terms.VarId.{VarId as Variable};
 ghost use Rattle.monitorable_guard.specs.machine.PresentMeaning.{outermost};
 ghost use Rattle.monitorable_guard.specs.meaning.Safety.{Safe, NoneBound, BoundOrFreeIn, denial};
@@ -10,11 +10,13 @@ ghost use Rattle.enf_formula.specs.machine.FormulaShape.{BindsFresh};
 ghost use Rattle.past_state.specs.machine.KeepableOperators.{IsFreshFormula, CanKeep, IsAlone, PushesFor};
 ghost use Rattle.past_state.specs.machine.LeftSides.{AsksLeft};
 ghost use Rattle.past_state.specs.machine.Memories.{IsFor};
+ghost use Rattle.past_state.specs.machine.Newcomers.{AsksRight};
 ghost use Rattle.past_state.specs.meaning.KeptRows.{operators};
 ghost use Rattle.enf_formula.specs.meaning.Satisfaction as tree;
 
 use crate::left_sides::Left;
 use crate::memories::Memory;
+use crate::newcomers::newcomers;
 use crate::operators::OperatorState;
 use crate::shared_guard::SharedGuard;
 use enf_data::intervals::Interval;
@@ -122,11 +124,29 @@ fn once_memory(alloc: Global, interval: Interval, operand: &Formula) -> Result<M
     requires safe { Safe (tree_of operand.now) NoneBound }
     ensures { IfOk result (λ m. (place : ℕ) → IsFor (tree.Once place interval (tree_of operand.now)) m) }
 {
-    safe_with_listed();
     let columns = operand.free_vars(alloc)?;
-    let right = shared_guard_of(alloc, operand, &Vars::new(alloc))?;
+    let right = right_of(alloc, interval, operand, &columns)?;
     let window = SinceWindow::new(alloc, interval, columns);
     Ok(Memory::Once { window, right })
+}
+
+// What is asked at each step for the rows of the operand of `once`.
+fn right_of(
+    alloc: Global,
+    interval: Interval,
+    operand: &Formula,
+    columns: &Vars,
+) -> Result<SharedGuard, NoMemory>
+    requires fresh { IsFreshFormula (tree_of operand.now) }
+    requires safe { Safe (tree_of operand.now) NoneBound }
+    requires columns { AreFreeVariables (tree_of operand.now) columns.now }
+    ensures { IfOk result (AsksRight interval (tree_of operand.now)) }
+{
+    safe_with_listed();
+    match newcomers(alloc, interval, operand, columns)? {
+        Some(guard) => Ok(guard),
+        None => shared_guard_of(alloc, operand, &Vars::new(alloc)),
+    }
 }
 
 fn historically_memory(
@@ -179,7 +199,7 @@ fn left_of(alloc: Global, left: &Formula, columns: &Vars) -> Result<Left, NoMemo
 {
     match left {
         Formula::True(_) => Ok(Left::All),
-        Formula::Not(_, denied) => match guard_alone(alloc, denied, columns)? {
+        Formula::Not(_, denied) => match guard_alone(alloc, denied)? {
             Some(guard) => Ok(Left::Denied(SharedGuard::new(alloc, guard)?)),
             None => Ok(Left::ByRow(shared_guard_of(alloc, left, columns)?)),
         },
@@ -187,13 +207,10 @@ fn left_of(alloc: Global, left: &Formula, columns: &Vars) -> Result<Left, NoMemo
     }
 }
 
-// The guard of the formula with nothing bound, where it is one and has just these columns.
-fn guard_alone(alloc: Global, formula: &Formula, columns: &Vars) -> Result<Option<Guard>, NoMemory>
-    ensures { IfOk result (λ found. IfSome found (IsAlone (tree_of formula.now) columns.now)) }
+// The guard of the formula with nothing bound, where it is one.
+pub fn guard_alone(alloc: Global, formula: &Formula) -> Result<Option<Guard>, NoMemory>
+    ensures { IfOk result (λ found. IfSome found (IsAlone (tree_of formula.now))) }
 {
-    if formula.free_vars(alloc)? != *columns {
-        return Ok(None);
-    }
     match Guard::of(alloc, formula.duplicate(alloc)?, &Vars::new(alloc)) {
         Ok(guard) => Ok(Some(guard)),
         Err(GuardRefusal::NoMemory) => Err(NoMemory),

@@ -1,7 +1,7 @@
 //! How windows and slots stand for a trace, step by step: laws over the definitions, each the contract of a function.
 ghost use Rattle.past_state.specs.machine.KeepableOperators.{KeptHeld, OperatorsCanBeKept};
 ghost use Rattle.past_state.specs.machine.Laws.{NoMoreThanNodes, SinceAnswers, SinceGoesOn, OnceAnswers, OnceGoesOn};
-ghost use Rattle.past_state.specs.machine.Laws.{HistoricallyIsDenied, PrevAnswers, PrevGoesOn};
+ghost use Rattle.past_state.specs.machine.Laws.{BegunAnswers, BegunGoesOn, HistoricallyIsDenied, PrevAnswers, PrevGoesOn};
 ghost use Rattle.past_state.specs.machine.ValueSources.{TablesAreKnown};
 ghost use Rattle.past_state.specs.machine.Past.{RunStands, CommitStands, TablesStay, UnreadGuardsHold};
 ghost use Rattle.past_state.specs.machine.Past.{UnreadTablesStay};
@@ -36,6 +36,17 @@ pub fn once()
     rows_are_chosen();
 }
 
+/// A window of `once` that is told only what is new.
+pub fn once_begun()
+    ensures answers { BegunAnswers }
+    ensures goes_on { BegunGoesOn }
+{
+    dependence();
+    trace_grows();
+    windows_stand();
+    rows_are_chosen();
+}
+
 /// A slot of `prev`.
 pub fn prev()
     ensures answers { PrevAnswers }
@@ -54,6 +65,7 @@ pub fn steps_stand()
     dependence();
     since();
     once();
+    once_begun();
     prev();
     present_is_satisfied();
 }

@@ -1,5 +1,9 @@
 //! What the left side of a `since` asks of the rows that are kept.
-ghost use Rattle.std.specs.Prelude.{IfOk};
+ghost use Rattle.std.specs.Prelude.{◌≡◌, ◌↔◌, Contains, IfOk};
+ghost use Rattle.enf_data.specs.declared.terms.VarId.{VarId as Variable};
+ghost use Rattle.enf_data.specs.meaning.Valuations.{Valuation as Bound};
+ghost use Rattle.valuations.specs.machine.Tables.{HasValuation};
+ghost use Rattle.windows.specs.machine.Windows.{WindowKeeps};
 
 use crate::row_filters::{all_rows, surviving_rows};
 use crate::shared_guard::SharedGuard;
@@ -7,6 +11,7 @@ use crate::survivors::Survivors;
 use enf_data::memory::NoMemory;
 use monitorable_guard::{Past, StepEvents};
 use std::alloc::Global;
+use valuations::Table;
 use windows::SinceWindow;
 
 /// The left side of a `since`, as it is asked at each step.
@@ -14,7 +19,7 @@ use windows::SinceWindow;
 pub enum Left {
     /// It is `true`.
     All,
-    /// It is the negation of this guard, which can be asked for all its rows, over the window's columns.
+    /// It is the negation of this guard, which can be asked for all its rows, over some of the window's columns.
     Denied(SharedGuard),
     /// It is asked under each row that is kept.
     ByRow(SharedGuard),
@@ -38,7 +43,8 @@ impl Left {
         match self {
             Left::All => Ok(Survivors::All),
             Left::Denied(guard) => {
-                let failing = all_rows(alloc, guard, events, past)?;
+                let denied = all_rows(alloc, guard, events, past)?;
+                let failing = failing_rows(alloc, denied, window)?;
                 Ok(Survivors::AllBut(failing))
             }
             Left::ByRow(guard) => {
@@ -48,4 +54,18 @@ impl Left {
             }
         }
     }
+}
+
+// The rows of the window that agree with a row of the table, by a look-up for each of these; where the table has the
+// columns of the window, it serves as it is.
+fn failing_rows(alloc: Global, denied: Table, window: &SinceWindow) -> Result<Table, NoMemory>
+    requires { (x : Variable) → Contains denied.columns x → Contains window.now.columns x }
+    ensures columns { IfOk result (λ t. t.columns ≡ window.now.columns) }
+    ensures rows { IfOk result (λ t. (v : Bound) → WindowKeeps window.now window.now.last v
+        → HasValuation t v ↔ HasValuation denied v) }
+{
+    if *denied.columns() != *window.columns() {
+        return window.rows_of_parts(alloc, &denied);
+    }
+    Ok(denied)
 }

@@ -1,8 +1,9 @@
 //! Questions to operators on the past at a step, each answered by a look-up in what is kept.
-ghost use Rattle.std.specs.Prelude.{◌≡◌, ◌↔◌, ◌≤◌, ◌<◌, IsTrue, IfOk, drop, get_or, length};
-ghost use Rattle.std.specs.Prelude.{reverse};
+ghost use Rattle.std.specs.Prelude.{◌≡◌, ◌↔◌, ◌≤◌, ◌<◌, ◌∷◌, [], IsTrue, IfOk, drop, get_or};
+ghost use Rattle.std.specs.Prelude.{length, reverse};
 ghost use Rattle.enf_data.specs.meaning.Valuations.{Valuation as Bound};
 ghost use Rattle.valuations.specs.machine.Tables.{AgreesWhereBound, HasValuation, IsTable};
+ghost use Rattle.monitorable_guard.specs.machine.Evaluation.{FirstHasUnder};
 ghost use Rattle.past_state.specs.machine.LazyTables.{CanAskEach, tables_at};
 
 use crate::memories::{Memory, StepTables};
@@ -90,10 +91,16 @@ impl Past for LazyTables<'_> {
         let memory = &self.operators[place].memory;
         memory.rows_under(alloc, self.time, &self.steps[place], v)
     }
+
+    fn has_some<V: Lookup>(&self, alloc: Global, operator: usize, v: &V) -> Result<bool, NoMemory> {
+        let place = place_of(self.places, operator);
+        let memory = &self.operators[place].memory;
+        memory.has_some(alloc, self.time, &self.steps[place], v)
+    }
 }
 
 // The number that stands at this place from the end.
-fn place_of(places: &[usize], operator: usize) -> usize
+pub fn place_of(places: &[usize], operator: usize) -> usize
     requires { operator < length places.now }
     ensures { result ≡ get_or (reverse places.now) operator result }
 {
@@ -141,6 +148,28 @@ impl Memory {
             Memory::Since { window, .. } => {
                 window.rows_under(alloc, time, &surviving, &tables.right, v)
             }
+        }
+    }
+    /// Whether there is such a row: of a window the first that is found is enough.
+    pub fn has_some<V: Lookup>(
+        &self,
+        alloc: Global,
+        time: u64,
+        tables: &StepTables,
+        v: &V,
+    ) -> Result<bool, NoMemory>
+        requires { CanAnswer self.now time tables.now }
+        ensures { IfOk result (λ some. IsTrue some
+            ↔ FirstHasUnder (memory_given self.now time tables.now ∷ []) (V.valuation v.now)) }
+    {
+        let surviving = tables.surviving.as_surviving();
+        match self {
+            Memory::Prev { .. } => {
+                let rows = self.rows_under(alloc, time, tables, v)?;
+                Ok(!rows.is_empty())
+            }
+            Memory::Once { window, .. } => Ok(window.has_some(time, &surviving, &tables.right, v)),
+            Memory::Since { window, .. } => Ok(window.has_some(time, &surviving, &tables.right, v)),
         }
     }
 }

@@ -184,7 +184,7 @@ impl Tables {
     ghost use Rattle.std.specs.Prelude.{◌<◌, length, drop};
     ghost use Rattle.past_state.specs.machine.ValueSources.{IsKnownOfGuard};
     ghost use Rattle.past_state.specs.machine.Past.{BindsBound, HasOpenColumns, AreEvaluated, AreSatisfied, IsTestOf};
-    ghost use Rattle.past_state.specs.machine.Past.{IsEvaluated, IsSatisfied};
+    ghost use Rattle.past_state.specs.machine.Past.{IsEvaluated, IsSatisfied, AreEvaluatedIn, HasColumnsOf};
 
     /// The guard's rows at the step, with the valuation's values of the bound variables. The columns are those free
     /// variables that are not bound, in rising variable number.
@@ -251,6 +251,30 @@ impl Tables {
         let placed = &self.guards[guard as usize];
         let past = self.behind(placed.start);
         placed.guard.rows_under(alloc, events, &past, v)
+    }
+
+    /// Those of the guard's rows that are in a table of some of their columns: the guard is asked under each row of
+    /// this table.
+    pub fn rows_in(
+        &self,
+        alloc: Global,
+        guard: u32,
+        events: &StepEvents<'_>,
+        v: &Frame<'_>,
+        within: &Table,
+    ) -> Result<Table, NoMemory>
+        requires within { guard < length self.now.guards }
+        requires binds { BindsBound self.now.guards guard (bound_in v.now) }
+        requires table { IsTable within.now }
+        requires columns { HasColumnsOf within.now self.now.guards guard }
+        ensures table { IfOk result IsTable }
+        ensures columns { IfOk result (HasOpenColumns self.now guard) }
+        ensures evaluated { IfOk result (AreEvaluatedIn within.now self.now guard events.now (bound_in v.now)) }
+        ensures known { IfOk result (IsKnownOfGuard self.now guard events.now (bound_in v.now)) }
+    {
+        let placed = &self.guards[guard as usize];
+        let past = self.behind(placed.start);
+        placed.guard.evaluate_in(alloc, events, &past, v, within)
     }
 
     /// Whether the valuation satisfies the guard, all of whose free variables are bound, at the step.

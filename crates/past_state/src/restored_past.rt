@@ -9,12 +9,13 @@ ghost use Rattle.past_state.specs.machine.MemoryTimes.{last_or_zero};
 ghost use Rattle.past_state.specs.machine.RestoredMemories.{AreByWindow, AreKeepableFor, AreRestored, CanRestore};
 ghost use Rattle.past_state.specs.machine.RestoredMemories.{IsRestored, IsRestoredSlot, IsRestoredWindow};
 
-use crate::guards::{place_all, push_all};
+use crate::guards::{PlacedGuard, place_all, push_all};
 use crate::kept_rows::KeptRows;
 use crate::memories::Memory;
 use crate::names::GuardNames;
 use crate::operators::{OperatorState, OperatorStates};
 use crate::past::PastState;
+use crate::row_looks::index_looks;
 use enf_data::items::Duplicate;
 use enf_data::memory::NoMemory;
 use enf_formula::laws::dependence;
@@ -50,8 +51,8 @@ impl PastState {
         dependence();
         let mut operators = Vec::new(alloc);
         let counts = push_all(alloc, guards, &mut operators)?;
-        let items = restore_each(alloc, operators, last, rows)?;
         let placed = place_all(alloc, guards, counts)?;
+        let items = restore_all(alloc, operators, placed.as_slice(), last, rows)?;
         let names = GuardNames::of(alloc, placed.as_slice())?;
         let guards = Rc::new(alloc, placed)?;
         let operators = Rc::new(alloc, OperatorStates { items })?;
@@ -61,6 +62,22 @@ impl PastState {
             names,
         })
     }
+}
+
+// The operators with the rows kept, and this last time, and with indexes for what the guards look up.
+fn restore_all(
+    alloc: Global,
+    operators: Vec<OperatorState>,
+    guards: &[PlacedGuard],
+    last: Option<u64>,
+    rows: KeptRows,
+) -> Result<Vec<OperatorState>, NoMemory>
+    requires { CanRestore operators.items last rows }
+    ensures { IfOk result (λ restored. AreRestored last rows 0 operators.items restored.items) }
+{
+    let mut restored = restore_each(alloc, operators, last, rows)?;
+    index_looks(alloc, &mut restored, guards)?;
+    Ok(restored)
 }
 
 // The operators with the rows kept, and this last time.

@@ -256,8 +256,9 @@ pub fn put_each(
     Ok(())
 }
 
-// Puts the instances of a list in, filed at this time, as begun at the first beginning, and holds their deadlines. They go in from the last
-// to the first: what was begun later ends later mostly, and a tree finds what comes before all that it has at once.
+// Puts the instances of a list in, filed at this time, as begun at the first beginning, and holds their deadlines. They
+// go in from the last to the first: what was begun later ends later mostly, and a tree finds what comes before all that
+// it has at once.
 pub fn put_listed(
     alloc: Global,
     plans: &[Plan],

@@ -3,7 +3,10 @@ use Rattle.windows.proofs.Vocabulary.{◌≡◌, ◌∙◌, ◌↔◌, ◌⊎◌
 use Rattle.windows.proofs.Vocabulary.{arith, Decides, cases_lt, Decides-like, Decides-and, drop_all, Contains-append_cases, Contains-append_left, Contains-append_right, same_Some, value_eq-Decides}
 use Rattle.windows.proofs.Vocabulary.{HasNoRepeats, IsIn, Valuation, value_at, Interval, VarId, Value, only_item as alone, here, later, first_or_later, none_in_nil, cell_here, cell_later}
 use Rattle.windows.proofs.Vocabulary.{table_row-length, Relation, IsTable, AgreesWithRow, AgreesWhereBound, HasValuation, IsBoundSame, AreWindowEntries, GivesRow, GivesSomeRow, are_cells_as_bound}
-use Rattle.windows.proofs.Vocabulary.{cells, is_cell_as_bound, SurvivesUnder, Window, AnswersBy, AreTables, FitsColumns, SurvivesFor, kept_entries, Surviving}
+use Rattle.windows.proofs.Vocabulary.{cells, is_cell_as_bound, SurvivesUnder, Window, AnswersBy, AreTables, FitsColumns, SurvivesFor, kept_entries, Surviving, RowSurvives, agrees_itself, cell_some}
+use Rattle.windows.proofs.Vocabulary.{valuation_of}
+use Rattle.std.specs.Prelude.{IsSome}
+use Rattle.enf_data.specs.meaning.Valuations.{BindsColumns}
 use Rattle.windows.proofs.WindowLemmas.{given_fits, given_rows, table_gives}
 
 -- a list of cells or a row that is used up
@@ -104,3 +107,58 @@ module _ (window : Window) (interval : Interval) (columns : List VarId) (last ti
         (g.0, (outs g.0).1 (inl ((middles g.0).1 (inr (g.1.0, (g.1.1, (as_bound_decides columns g.0 v w distinct long g.2).1 both.1))))), g.2))
         both.0),
   )
+
+-- ---- whether there is such a row
+
+module _ (window : Window) (interval : Interval) (columns : List VarId) (last time : ℕ) (es : List (List Value × List ℕ)) (distinct : HasNoRepeats columns)
+    (kept : AreWindowEntries (length columns) last es)
+    (is : record { interval = interval; columns = columns; last = last; kept = kept_entries es } ≡ window) (s : Surviving) (right : Relation) (v : Valuation)
+    (fits_s : FitsColumns columns s) (right_columns : right.columns ≡ columns) where
+  abbrev HasSome : Window → Type 0
+  HasSome u = (w : Valuation) × BindsColumns w u.columns × AnswersBy u time (SurvivesFor s) right w × AgreesWhereBound u.columns v w
+
+  abbrev pub IsRightUnder : Type 0
+  IsRightUnder = IsIn interval 0 × ((row : List Value) × Contains right.rows row × IsTrue (are_cells_as_bound (cells columns v) row))
+
+  abbrev pub IsGivenUnder : Type 0
+  IsGivenUnder = (row : List Value) × GivesRow interval time (SurvivesUnder s (cells columns v)) es row
+
+  -- the valuation of a row that agrees
+  own : (u : Window) → u.columns ≡ columns → (row : List Value) → length row ≡ length columns → IsTrue (are_cells_as_bound (cells columns v) row)
+      → ((w : Valuation) → AgreesWithRow w columns row → AnswersBy u time (SurvivesFor s) right w) → HasSome u
+  own u same row long passes answers =
+      let w = valuation_of columns row in
+      let agrees = agrees_itself columns row distinct long in (
+        w,
+        subst (BindsColumns w) (sym same) (λ x there. let cell = cell_some columns row x long there in subst IsSome (sym (agrees x there ∙ cell.1)) refl),
+        answers w agrees,
+        subst (λ l. AgreesWhereBound l v w) (sym same) ((as_bound_decides columns row v w distinct long agrees).0 passes),
+      )
+
+  pub right_is_some : IsTable right → IsRightUnder → HasSome window
+  right_is_some table now =
+      let row = now.1.0 in
+      subst HasSome is (own (record { interval = interval; columns = columns; last = last; kept = kept_entries es }) refl row
+      (table_row-length right row table now.1.1 ∙ ap length right_columns) now.1.2
+      (λ w agrees. inl (now.0, (row, now.1.1, subst (λ l. AgreesWithRow w l row) (sym right_columns) agrees))))
+
+  pub given_is_some : AreTables s → IsGivenUnder → HasSome window
+  given_is_some tables given =
+      let row = given.0 in
+      let plain : GivesRow interval time (RowSurvives s) es row = (given.1.0, given.1.1.0) in
+      subst HasSome is (own (record { interval = interval; columns = columns; last = last; kept = kept_entries es }) refl row
+      (given_fits interval interval columns last time es s distinct kept fits_s (λ _. tables) row plain) given.1.1.1
+      (λ w agrees. inr ((given_rows interval interval columns last time es s distinct kept fits_s (λ _. tables) w).0 (row, plain, agrees))))
+
+  pub some_is_one : AreTables s → (IsIn interval 0 → IsTable right) → HasSome window → IsRightUnder ⊎ IsGivenUnder
+  some_is_one tables table some = by (subst HasSome (sym is) some)
+    where
+      by : HasSome (record { interval = interval; columns = columns; last = last; kept = kept_entries es }) → IsRightUnder ⊎ IsGivenUnder
+      by found = ⊎_elim
+          (λ now. let row = now.1.0 in
+          let agrees = subst (λ l. AgreesWithRow found.0 l row) right_columns now.1.2 in
+          inl (now.0, (row, now.1.1, (as_bound_decides columns row v found.0 distinct (table_row-length right row (table now.0) now.1.1 ∙ ap length right_columns) agrees).1 found.3)))
+          (λ before. let g = (given_rows interval interval columns last time es s distinct kept fits_s (λ _. tables) found.0).1 before in
+          let long = given_fits interval interval columns last time es s distinct kept fits_s (λ _. tables) g.0 g.1 in
+          inr (g.0, (g.1.0, (g.1.1, (as_bound_decides columns g.0 v found.0 distinct long g.2).1 found.3))))
+          found.2

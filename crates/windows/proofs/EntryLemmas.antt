@@ -4,11 +4,10 @@ use Rattle.windows.proofs.Vocabulary.{Option, None, Some, refl, sym, ap, subst, 
 use Rattle.windows.proofs.Vocabulary.{Contains-get_or, Contains-push, same_Some, none-some, position, slice_get, IfSome, cond, IsDistinct, RetainsPairs, take_more, position-Some, keys_of, lookup}
 use Rattle.windows.proofs.Vocabulary.{values_of, set_value_at, get_by, insert_entry, insert_entry-new, HashMap, HasNoRepeats-from_distinct, here, later, first_or_later, none_in_nil}
 use Rattle.windows.proofs.Vocabulary.{derived_row_eq-Decides, HasNoRepeats, Interval, Value, all_from, AddAtMost, AddsAtMost, AddsTime, AddsTimes, AreWindowEntries, AreLeast, Forgets, ForgetsTimes}
-use Rattle.windows.proofs.Vocabulary.{GivesRow, GivesSomeRow, HasTime, IsAnyRow, IsSettledRow, IsSomeIn, KeepsRows, IsEndedTime, AreLeastTimes, IsServedTime, RiseTo, Contains-from_map, Contains-map}
-use Rattle.windows.proofs.Vocabulary.{All-weaker}
+use Rattle.windows.proofs.Vocabulary.{GivesRow, GivesSomeRow, HasTime, IsAnyRow, IsSomeIn, KeepsRows, IsEndedTime, AreLeastTimes, IsServedTime, RiseTo, Contains-from_map, Contains-map, All-weaker}
 use Rattle.std.specs.Prelude.{is_some, IsTrue}
 use Rattle.windows.proofs.LeastLemmas.{one_entry}
-use Rattle.windows.proofs.TimeLemmas.{first_least, itself, least_live, least_near, rise_later}
+use Rattle.windows.proofs.TimeLemmas.{first_least, itself, rise_later}
 use Rattle.windows.specs.machine.RowTimes.{is_some_time}
 use Rattle.windows.specs.machine.Windows.{kept_entries}
 use Rattle.windows.specs.machine.WindowEntries.{IsLetGoUnless}
@@ -209,16 +208,6 @@ module _ (interval : Interval) (now : ℕ) (row : List Value) (es after : List (
     serves = λ other time has. serves_set other time has (λ t there. subst (λ h. IsServedTime h interval.low now (Contains new) t ⊎ IsEndedTime h now t) (sym is) (forgets.serves t there));
   }
 
-  pub row_settled : (high : ℕ) → HasNoRepeats (map (λ e. e.0) after) → RiseTo now new → (new ≡ []) ⊎ AreLeastTimes (Some high) interval.low now new → IsSettledRow high interval.low now after row
-  row_settled high unique rise least = λ time. (
-    λ has.
-        let at : Contains new time = subst (λ t. Contains t time) (one_entry after unique row has.0 new has.1 sets.is) has.2 in
-        ⊎_elim (λ none. absurd (none_in_nil time (subst (λ l. Contains l time) none at))) (λ is. least_live high interval.low now new rise is time at) least,
-    λ has.
-        let at : Contains (drop 1 new) time = subst (λ t. Contains (drop 1 t) time) (one_entry after unique row has.0 new has.1 sets.is) has.2 in
-        ⊎_elim (λ none. absurd (none_in_nil time (subst (λ (l : List ℕ). Contains (drop 1 l) time) none at))) (λ is. least_near high interval.low now new is time at) least,
-  )
-
 -- the times of a row go
 pub row_let_go : (row : List Value) (es after : List (List Value × List ℕ)) (old : List ℕ) → SetsAt es after row old [] → map (λ e. e.0) after ≡ map (λ e. e.0) es
     → HasNoRepeats (map (λ e. e.0) after) → KeepsRows (λ other. other ≡ row → ⊥) es after
@@ -302,11 +291,6 @@ forgets_then interval now es middle after first second = record {
   serves = λ row time has. ⊎_elim (served_on interval.high interval.low now (HasTime middle row) (HasTime after row) time (second.serves row)) (λ ended. inr ended) (first.serves row time has);
 }
 
--- a row that is settled stays so
-pub settled_then : (high : ℕ) (interval : Interval) (now : ℕ) (row : List Value) (middle after : List (List Value × List ℕ)) → Forgets interval now middle after
-    → IsSettledRow high interval.low now middle row → IsSettledRow high interval.low now after row
-settled_then high interval now row middle after second settled = λ time. (λ has. (settled time).0 (second.from row time has), λ has. (settled time).1 (second.behind row time has))
-
 pub keeps_all : (es : List (List Value × List ℕ)) → KeepsRows (λ row. Contains [] row → ⊥) es es
 keeps_all es = record { among = λ e there. inl there; exact = λ row time. (λ has. (has, λ there. none_in_nil row there), λ both. both.0); unique = λ unique. unique }
 
@@ -367,12 +351,6 @@ forgets_missing row es none = record {
   exact = λ other time. (λ has. (has, λ same. absent (rows.eq-value.it row) es none (other, has.0) has.1 ((derived_row_eq-Decides row other).1 (sym same))), λ both. both.0);
   unique = λ unique. unique;
 }
-
-pub settled_missing : (high low now : ℕ) (row : List Value) (es : List (List Value × List ℕ)) → lookup (rows.eq-value.it row) es ≡ None → IsSettledRow high low now es row
-settled_missing high low now row es none = λ time. (λ has. absurd (not_there has.0 has.1), λ has. absurd (not_there has.0 has.1))
-  where
-    not_there : (times : List ℕ) → Contains es (row, times) → ⊥
-    not_there times there = absent (rows.eq-value.it row) es none (row, times) there ((derived_row_eq-Decides row row).1 refl)
 
 -- ---- what a table keeps
 

@@ -3,7 +3,7 @@ use Rattle.windows.proofs.Vocabulary.{◌≡◌, ◌∙◌, ◌⊎◌, inl, inr,
 use Rattle.windows.proofs.Vocabulary.{arith, none_in_nil, later, get_or, ◌<◌, ◌+◌, same_Some, none-some, position, slice_get, cond, keys_of, lookup, values_of, set_value_at, option_map_or, VarId}
 use Rattle.windows.proofs.Vocabulary.{Value, cells, cells_eq, cells_eq-Decides, row_cell, value_at, cell_some, here, first_or_later, Contains-append_cases, HashMap, insert_entry, append-nil}
 use Rattle.windows.proofs.Vocabulary.{append_assoc, length-append, Contains-append_right as there_right, ◌↔◌, Contains-append_left, Contains-push, GivesRow, Interval, IsSomeIn, there_from_get, IsTrue}
-use Rattle.windows.proofs.Vocabulary.{◌&&◌, false≢true, is_some, value_eq-Decides, All, All-contains, are_cells_as_bound, is_cell_as_bound, only_item, Valuation}
+use Rattle.windows.proofs.Vocabulary.{◌&&◌, false≢true, is_some, value_eq-Decides, All, All-contains, are_cells_as_bound, is_cell_as_bound, only_item, Valuation, cases_lt, Contains-get_or, ◌≤◌}
 use Rattle.std.specs.Option.{option_map}
 use Rattle.std.proofs.lemmas.Bool.{eq-eqb, eqb-true}
 use Rattle.enf_data.specs.meaning.Valuations.{no_values, BindsColumns, variable_cmp}
@@ -302,3 +302,86 @@ module _ (interval : Interval) (now : ℕ) (S : List Value → Type 0) (entries 
 pub none_at_place : {X Y : Type 0} (r : Option X) (f : X → Y) (o : Option Y) → option_map f r ≡ o → ((x : X) → r ≡ Some x → ⊥) → (y : Y) → o ≡ Some y → ⊥
 none_at_place None f o same not_some y is = none-some y (same ∙ is)
 none_at_place (Some x) f o same not_some y is = absurd (not_some x refl)
+
+-- ---- whether one of the rows is given
+
+module _ (interval : Interval) (now : ℕ) (S : List Value → Type 0) (entries : List (List Value × List ℕ)) where
+  pub one_at_place : (place : ℕ) (e : List Value × List ℕ) (b : Bool) → slice_get entries place ≡ Some e → IsTrue b ↔ (IsSomeIn interval now e.1 × S e.0)
+      → IsTrue b ↔ ((row : List Value) × GivesRowAt interval now S entries place row)
+  one_at_place place e b at told = (
+    λ yes. let both = told.0 yes in (e.0, (e.1, at, both.0, both.1)),
+    λ given. told.1 (subst (λ (x : List Value × List ℕ). IsSomeIn interval now x.1 × S x.0) (same_Some (given.0, given.1.0) e (sym given.1.1 ∙ at)) (given.1.2, given.1.3)),
+  )
+
+  pub none_given_at : (place : ℕ) → ((e : List Value × List ℕ) → slice_get entries place ≡ Some e → ⊥) → IsTrue false ↔ ((row : List Value) × GivesRowAt interval now S entries place row)
+  none_given_at place none = (λ no. absurd (false≢true no), λ given. absurd (none (given.0, given.1.0) given.1.1))
+
+  -- the first that is found is enough
+  pub one_given : (place : ℕ) (b : Bool) → IsTrue b → IsTrue b ↔ ((row : List Value) × GivesRowAt interval now S entries place row)
+      → IsTrue true ↔ ((row : List Value) × GivesRow interval now S entries row)
+  one_given place b found told =
+      let g = told.0 found in (λ _. (g.0, ((g.1.0, there_from_get entries place (g.0, g.1.0) g.1.1, g.1.2), g.1.3)), λ _. refl)
+
+  -- none at these places
+  abbrev pub NoneAt : List ℕ → Type 0
+  NoneAt places = (row : List Value) → GivenAt interval now S entries places row → ⊥
+
+  pub none_yet : NoneAt []
+  none_yet row at = none_in_nil at.0 at.1
+
+  pub none_more : (places : List ℕ) (i d : ℕ) (b : Bool) → i < length places → NoneAt (take i places) → b ≡ false
+      → IsTrue b ↔ ((row : List Value) × GivesRowAt interval now S entries (get_or places i d) row) → NoneAt (take (i + 1) places)
+  none_more places i d b below so_far fails told =
+      let place = get_or places i d in
+      next_of NoneAt places i place below (get_or_default places i d place below) (λ row at. ⊎_elim
+      (λ before. so_far row (at.0, before, at.2))
+      (λ last. false≢true (sym fails ∙ told.1 (row, subst (λ n. GivesRowAt interval now S entries n row) (sym (only_item place at.0 last)) at.2)))
+      (Contains-append_cases (take i places) (place ∷ []) at.0 at.1))
+
+  pub none_found : (places : List ℕ) → ((place : ℕ) (row : List Value) (times : List ℕ) → slice_get entries place ≡ Some (row, times) → S row → Contains places place) → NoneAt places
+      → IsTrue false ↔ ((row : List Value) × GivesRow interval now S entries row)
+  none_found places complete none =
+      (λ no. absurd (false≢true no), λ given. absurd (none given.0 ((given_at_all interval now S entries places complete given.0).1 given.1)))
+
+  -- nor below this one
+  abbrev pub NoneBelow : ℕ → Type 0
+  NoneBelow bound = (place : ℕ) → place < bound → (row : List Value) → GivesRowAt interval now S entries place row → ⊥
+
+  pub none_below_more : (bound : ℕ) (b : Bool) → NoneBelow bound → b ≡ false → IsTrue b ↔ ((row : List Value) × GivesRowAt interval now S entries bound row) → NoneBelow (bound + 1)
+  none_below_more bound b so_far fails told place below row given = ⊎_elim
+      (λ before. so_far place before row given)
+      (λ above. let same : place ≡ bound = omega (arith, below, above) in
+      false≢true (sym fails ∙ told.1 (row, subst (λ n. GivesRowAt interval now S entries n row) same given)))
+      (cases_lt place bound)
+
+  below_length : (xs : List (List Value × List ℕ)) (place : ℕ) (e : List Value × List ℕ) → slice_get xs place ≡ Some e → place < length xs
+  below_length [] place e at = absurd (none-some e at)
+  below_length (x ∷ xs) zero e at = omega (arith)
+  below_length (x ∷ xs) (suc place) e at = let rest = below_length xs place e at in omega (arith, rest)
+
+  pub none_below_all : (bound : ℕ) → length entries ≤ bound → NoneBelow bound → IsTrue false ↔ ((row : List Value) × GivesRow interval now S entries row)
+  none_below_all bound all none = (
+    λ no. absurd (false≢true no),
+    λ given. let at = place_of_entry entries (given.0, given.1.0.0) given.1.0.1 in
+        let below = below_length entries at.0 (given.0, given.1.0.0) at.1 in
+        absurd (none at.0 (omega (arith, all, below)) given.0 (given.1.0.0, at.1, given.1.0.2, given.1.1)),
+  )
+
+-- ---- whether a row of a list passes
+
+module _ (P : List Value → Type 0) (rows : List (List Value)) where
+  abbrev pub NonePasses : List (List Value) → Type 0
+  NonePasses done = (row : List Value) → Contains done row → P row → ⊥
+
+  pub none_passes_yet : NonePasses []
+  none_passes_yet row there holds = none_in_nil row there
+
+  pub none_passes_more : (i : ℕ) (row : List Value) → i < length rows → row ≡ get_or rows i row → NonePasses (take i rows) → (P row → ⊥) → NonePasses (take (i + 1) rows)
+  none_passes_more i row below is so_far fails = next_of NonePasses rows i row below is (λ r there passes. ⊎_elim
+      (λ before. so_far r before passes) (λ last. fails (subst P (sym (only_item row r last)) passes)) (Contains-append_cases (take i rows) (row ∷ []) r there))
+
+  pub one_passes : (i : ℕ) (row : List Value) → i < length rows → row ≡ get_or rows i row → P row → IsTrue true ↔ ((r : List Value) × Contains rows r × P r)
+  one_passes i row below is passes = (λ _. (row, subst (Contains rows) (sym is) (Contains-get_or rows i row below), passes), λ _. refl)
+
+  pub none_of_all : NonePasses rows → IsTrue false ↔ ((r : List Value) × Contains rows r × P r)
+  none_of_all none = (λ no. absurd (false≢true no), λ some. absurd (none some.0 some.1 some.2))

@@ -1,6 +1,7 @@
 pub mod Vocabulary
 pub mod BoundAnswerLemmas
 pub mod CaseLemmas
+pub mod CompactLemmas
 pub mod CopyLemmas
 pub mod EntryLemmas
 pub mod ExpiryLemmas
@@ -12,12 +13,13 @@ pub mod KeptTimeLemmas
 pub mod LeastLemmas
 pub mod ListSteps
 pub mod PairLemmas
+pub mod PartLemmas
+pub mod PlaceLemmas
 pub mod QueryLemmas
 pub mod QueueLemmas
 pub mod RestoreLemmas
 pub mod RowAnswerLemmas
 pub mod SlotLemmas
 pub mod SmallWindow
-pub mod StepLemmas
 pub mod TimeLemmas
 pub mod WindowLemmas

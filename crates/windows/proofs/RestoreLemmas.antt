@@ -3,8 +3,8 @@ use Rattle.windows.proofs.WindowLemmas.{kept_from, to_view}
 use Rattle.windows.proofs.Vocabulary.{inr, ◌⊎◌, ◌≡◌, ◌∙◌, ◌↔◌, ⊎_elim, ℕ, ◌-◌, ◌<◌, ◌≤◌, List, [], ◌∷◌, ◌++◌, map, drop, length, All, Contains, Option, None, Some, refl, sym, ap, subst, arith}
 use Rattle.windows.proofs.Vocabulary.{length-append, int_cmp_total, tied_itself, nat_list_cmp_total, ordering_then, Less, Equal, cases_lt, All-contains, All-nil, All-push, Contains-append_cases}
 use Rattle.windows.proofs.Vocabulary.{Contains-append_left, Contains-append_right, HasNoRepeats, row_cmp, value_cmp, Interval, VarId, Value, Num, Text, all_from, here, later, first_or_later}
-use Rattle.windows.proofs.Vocabulary.{none_in_nil, Contains-from_map, Contains-map, ChosenBy, IsPairBefore, IsRisingBy, pair, AreBefore, AreEntriesOf, AreKeepable, HaveStepsOf, HaveTimesOf}
-use Rattle.windows.proofs.Vocabulary.{AreWindowEntries, AreLeast, HasBehind, HasTime, Queue, AreInReach, IsInStep, AreLeastTimes, RiseTo, IsWindow, kept_entries, KeptPair}
+use Rattle.windows.proofs.Vocabulary.{none_in_nil, Contains-from_map, Contains-map, ChosenBy, IsPairBefore, IsRisingBy, pair, AreBefore, AreEntriesOf, AreKeepable, AreWindowEntries, AreLeast, HasTime}
+use Rattle.windows.proofs.Vocabulary.{Queue, IsQueueAt, count_pairs, AreLeastTimes, RiseTo, IsWindow, kept_entries, KeptPair}
 use Rattle.windows.proofs.KeptLaws.{rises_append}
 use Rattle.windows.proofs.EntryLemmas.{SetsAt}
 use Rattle.windows.proofs.LeastLemmas.{one_entry}
@@ -172,37 +172,24 @@ module _ (interval : Interval) (columns : List VarId) (last : ℕ) (pairs : List
       among None row times there t chosen = λ other has. chosen other ((times_of row times there other).0 has)
       among (Some high) row times there t chosen = (chosen.0, λ far other has. chosen.1 far other ((times_of row times there other).0 has))
 
-  module _ (queue : Queue) (distinct : HasNoRepeats columns) (far : queue.far ≡ 0) (within : HaveTimesOf pairs queue.steps) (none : interval.high ≡ None → queue.steps ≡ [])
-      (steps : (high : ℕ) → interval.high ≡ Some high → HaveStepsOf pairs queue.steps) where
-    pub restored : IsWindow interval columns last es queue None
-    restored = record {
-      distinct = distinct;
-      kept = restored_kept;
-      least = restored_least;
-      up_to = all_from (λ s. s.time ≤ last) queue.steps (λ s there. let at = within s there in
-          subst (λ t. t ≤ last) (sym at.2) (All-contains (λ p. p.time ≤ last) pairs at.0 keepable.up_to at.1));
-      in_reach = in_reach interval.high refl;
-      indexed = tt;
-      queued = λ high is. record {
-        times = λ row time has. steps high is (pair row time) ((are.exact (pair row time)).0 has);
-        waiting = λ row time has. subst (λ n. IsInStep (drop n queue.steps) row time) (sym far) (steps high is (pair row time) ((are.exact (pair row time)).0 (behind row time has)));
-      };
-    }
-      where
-        in_reach : (high : Option ℕ) → high ≡ interval.high → AreInReach high last queue.steps
-        in_reach None is = none (sym is)
-        in_reach (Some high) is = all_from (λ s. last - s.time ≤ high) queue.steps (λ s there.
-            let at = within s there in
-            let live : last - at.0.time ≤ high = (subst (λ h. ChosenBy h interval.low last (λ other. Contains pairs (pair at.0.row other)) at.0.time) (sym is)
-            (keepable.chosen at.0.row at.0.time at.1)).0 in
-            subst (λ t. last - t ≤ high) (sym at.2) live)
+  all_counted : (left : List (List Value × List ℕ)) → ((e : List Value × List ℕ) → Contains left e → 0 < length e.1) → length left ≤ count_pairs left
+  all_counted [] some = omega arith
+  all_counted (e ∷ left) some =
+      let rest = all_counted left (λ x there. some x (later x e left there)) in
+      let first = some e (here e left) in omega (arith, rest, first)
 
-        of_drop : (times : List ℕ) (t : ℕ) → Contains (drop 1 times) t → Contains times t
-        of_drop [] t there = there
-        of_drop (x ∷ times) t there = later t x times there
-
-        behind : (row : List Value) (time : ℕ) → HasBehind es row time → HasTime es row time
-        behind row time has = (has.0, has.1, of_drop has.0 time has.2)
+  pub restored : (queue : Queue) (n : ℕ) → HasNoRepeats columns → IsQueueAt interval last es queue → length queue.dues ≤ count_pairs es → n ≤ count_pairs es
+      → IsWindow interval columns last es queue None n
+  restored queue n distinct queued few counted =
+      let rows = all_counted es (λ e there. (All-contains (λ f. (0 < length f.1) × IsRisingBy ◌<◌ f.1) es e are.fit there).0) in record {
+        distinct = distinct;
+        kept = restored_kept;
+        least = restored_least;
+        queued = queued;
+        indexed = tt;
+        compact = record { rows = omega (arith, rows); dues = omega (arith, few) };
+        counted = counted;
+      }
 
   pub restored_pairs : (kept : List (List Value × List ℕ)) → kept ≡ kept_entries es → (row : List Value) (time : ℕ)
       → Contains pairs (pair row time) ↔ ((times : List ℕ) × Contains kept (row, times) × Contains times time)

@@ -160,46 +160,6 @@ few_settled high low now (t ∷ []) few rise live = passes_enough high low now (
     (passes_none high low now (t ∷ []) rise)
 few_settled high low now (a ∷ b ∷ times) few rise live = absurd (omega (arith, few))
 
--- where one was there at this time, one is left
-pub settled_least : (high low now : ℕ) (before after : List ℕ) → Contains before now → SettlesTimes high low now before after → AreLeastTimes (Some high) low now after
-settled_least high low now before after there settles = ⊎_elim
-    (λ none. absurd (⊎_elim (λ by. none_in_nil by.0 (subst (λ l. Contains l by.0) none by.3)) (λ ended. omega (arith, ended)) (settles.forgets.serves now there)))
-    (λ least. least) settles.least
-
-pub before_now : (now first : ℕ) → RiseTo now (first ∷ []) → (Contains (first ∷ []) now → ⊥) → first < now
-before_now now first rise later_one = ⊎_elim (λ same. absurd (later_one (0, omega arith, same))) (λ less. less) (equal_or_below first now rise.0)
-
-two_rise : (now first : ℕ) → first < now → RiseTo now (first ∷ now ∷ [])
-two_rise now first below = (
-  omega (arith, below),
-  all_from (λ l. first < l) (now ∷ []) (λ time there.
-      ⊎_elim (λ same. omega (arith, same, below)) (λ none. absurd (none_in_nil time none)) (first_or_later time now [] there)),
-  (omega arith, All-nil _, tt),
-)
-
--- of two the first is passed, or both stay
-pub one_passed : (high low now first : ℕ) → first < now → (high < now - first) ⊎ (low ≤ now - now) → SettlesTimes high low now (first ∷ now ∷ []) (now ∷ [])
-one_passed high low now first below passed = record {
-  forgets = forgets_first high low now (first ∷ now ∷ []) first now [] below passed (forgets_none high low now (first ∷ now ∷ []));
-  rise = (omega arith, All-nil _, tt);
-  least = inr (omega arith, All-nil _);
-}
-
-pub two_held : (high low now first : ℕ) → first < now → (now - first ≤ high) × (now - now < low) → SettlesTimes high low now (first ∷ now ∷ []) (first ∷ now ∷ [])
-two_held high low now first below held = record {
-  forgets = forgets_none high low now (first ∷ now ∷ []);
-  rise = two_rise now first below;
-  least = inr (
-    held.0,
-    all_from (λ l. now - l < low) (now ∷ []) (λ time there.
-        ⊎_elim (λ same. omega (arith, same, held.1)) (λ none. absurd (none_in_nil time none)) (first_or_later time now [] there)),
-  );
-}
-
--- the first time of a row
-pub first_settles : (high low now : ℕ) → SettlesTimes high low now (now ∷ []) (now ∷ [])
-first_settles high low now = record { forgets = forgets_none high low now (now ∷ []); rise = (omega arith, All-nil _, tt); least = inr (omega arith, All-nil _) }
-
 pub first_least : (high : Option ℕ) (low now : ℕ) → AreLeastTimes high low now (now ∷ [])
 first_least None low now = refl
 first_least (Some high) low now = (omega arith, All-nil _)
@@ -226,6 +186,43 @@ adds_by interval now before after high is forgets = record {
   serves = λ time there. subst (λ h. IsServedTime h interval.low now (Contains after) time ⊎ IsEndedTime h now time) (sym is) (forgets.serves time (Contains-append_left before (now ∷ []) time there));
   added = subst (λ h. IsServedTime h interval.low now (Contains after) now) (sym is) (⊎_elim (λ by. by) (λ ended. absurd (omega (arith, ended))) (forgets.serves now (Contains-push before now)));
 }
+
+-- where 0 is far enough the time now is there alone, in the place of one
+pub replaced_at_most : (now : ℕ) (before : List ℕ) → AddsAtMost now before (now ∷ [])
+replaced_at_most now before = record {
+  from = λ time there. inr (⊎_elim (λ same. sym same) (λ none. absurd (none_in_nil time none)) (first_or_later time now [] there));
+  behind = λ time there. absurd (none_in_nil time there);
+}
+
+pub replaced_added : (interval : Interval) (now high : ℕ) (before : List ℕ) → interval.high ≡ Some high → interval.low ≡ 0 → RiseTo now before → AddsTime interval now before (now ∷ [])
+replaced_added interval now high before is low rise = record {
+  serves = λ time there. inl (serves time (up_to now before time rise there));
+  added = serves now (omega arith);
+}
+  where
+    serves : (time : ℕ) → time ≤ now → IsServedTime interval.high interval.low now (Contains (now ∷ [])) time
+    serves time below = subst (λ h. IsServedTime h interval.low now (Contains (now ∷ [])) time) (sym is) (now, below, inr (omega (arith, low)), here now [])
+
+pub one_of_least : (high : Option ℕ) (end low now : ℕ) (times : List ℕ) → high ≡ Some end → low ≡ 0 → AreLeastTimes high low now times → length times ≡ 1
+one_of_least high end low now times is none least = by end low now times none (subst (λ h. AreLeastTimes h low now times) is least)
+  where
+    by : (end low now : ℕ) (times : List ℕ) → low ≡ 0 → AreLeastTimes (Some end) low now times → length times ≡ 1
+    by end low now [] none least = absurd least
+    by end low now (first ∷ []) none least = refl
+    by end low now (first ∷ second ∷ times) none least =
+        let near : now - second < low = All-contains (λ l. now - l < low) (second ∷ times) second least.1 (here second times) in absurd (omega (arith, near, none))
+
+-- else it goes last
+pub earlier_all : (now : ℕ) (times : List ℕ) → RiseTo now times → (Contains times now → ⊥) → All (λ earlier. earlier < now) times
+earlier_all now times rise absent = all_from (λ earlier. earlier < now) times (λ time there.
+    ⊎_elim (λ same. absurd (absent (subst (Contains times) same there))) (λ less. less) (equal_or_below time now (up_to now times time rise there)))
+
+pub pushed_least : (high : Option ℕ) (end low now : ℕ) (times : List ℕ) → high ≡ Some end → 0 < low → AreLeastTimes high low now times → AreLeastTimes high low now (times ++ now ∷ [])
+pushed_least high end low now times is far least = subst (λ h. AreLeastTimes h low now (times ++ now ∷ [])) (sym is) (by times (subst (λ h. AreLeastTimes h low now times) is least))
+  where
+    by : (times : List ℕ) → AreLeastTimes (Some end) low now times → AreLeastTimes (Some end) low now (times ++ now ∷ [])
+    by [] least = absurd least
+    by (first ∷ times) least = (least.0, All-push (λ l. now - l < low) times now least.1 (omega (arith, far)))
 
 pub itself : (high : Option ℕ) (low now : ℕ) (P : ℕ → Type 0) (time : ℕ) → P time → IsServedTime high low now P time
 itself None low now P time there = (time, omega arith, there)

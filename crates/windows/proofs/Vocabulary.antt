@@ -1,7 +1,7 @@
 -- The words in which the proofs of this crate speak: those of std, of the crates below and of its own specs.
 pub use Rattle.std.proofs.Common.{All, Bool, Contains, Global, IsTrue, List, None, Option, Some, Vec, [], ap, append-nil, append_assoc, arith, drop, drop-cons, false, filter, get_or, inl, inr}
-pub use Rattle.std.proofs.Common.{is_some, leb, length, length-append, map, min, nat_eq, not, refl, rules, subst, suc, sym, take, true, zero, ℕ, ⊎_elim, ◌&&◌, ◌++◌, ◌+◌, ◌-◌, ◌<◌, ◌||◌, ◌↔◌, ◌∙◌, ◌∷◌}
-pub use Rattle.std.proofs.Common.{◌≡◌, ◌≤◌, ◌⊎◌}
+pub use Rattle.std.proofs.Common.{is_none, is_some, leb, length, length-append, map, min, nat_eq, not, refl, rules, subst, suc, sym, take, true, zero, ℕ, ⊎_elim, ◌&&◌, ◌++◌, ◌+◌, ◌-◌, ◌<◌, ◌||◌, ◌↔◌}
+pub use Rattle.std.proofs.Common.{◌∙◌, ◌∷◌, ◌≡◌, ◌≤◌, ◌⊎◌}
 pub use Rattle.std.proofs.lemmas.Bool.{cases_lt, false≢true}
 pub use Rattle.std.proofs.lemmas.Bool.Decides.{Decides-and, Decides-eqb, Decides-like, Decides-not, Decides-or, leb_tells, not_from_Decides}
 pub use Rattle.std.proofs.lemmas.List.{drop_all, drop_more, get_or-map, length-map, map-append, take_all, take_more}
@@ -58,11 +58,12 @@ pub use Rattle.windows.specs.machine.Laws.{AnsweredIsWalked, CommittedStands, Le
 pub use Rattle.windows.specs.machine.RowQueries.{SurvivesUnder, are_cells_as_bound, cell_eq, cell_fed, cells, cells_eq, cells_eq-Decides, is_cell_as_bound}
 pub use Rattle.windows.specs.machine.RowTimes.{AreLeastTimes, IsEndedTime, IsServedTime, RiseTo}
 pub use Rattle.windows.specs.machine.Slots.{GivesLast, HasLast, IsSlot, LastHasColumns, Slot, with_rows}
-pub use Rattle.windows.specs.machine.StepQueues.{AreInReach, AreQueued, AreUpToTime, IsInStep, IsStepQueue, LetsGo, Queue, StepsNeverFall, waiting_of}
-pub use Rattle.windows.specs.machine.StoredPairs.{AreBefore, AreEntriesOf, AreKeepable, AreOfLast, ArePairsKept, ArePairsOf, AreRising, AreTimesOf, HaveStepsOf, HaveTimesOf, Stores, last_step_time}
-pub use Rattle.windows.specs.machine.StoredPairs.{pairs_of_last, rows_at}
+pub use Rattle.windows.specs.declared.queue.Due.{Due}
+pub use Rattle.windows.specs.machine.DueQueues.{AreInReach, AreQueued, AreUpToTime, DuesNeverFall, HasBehindAt, HasTimeAt, IsCompact, IsDueQueue, IsQueueAt, IsSettledAt, KeepsDues, LetsGo, Queue, due}
+pub use Rattle.windows.specs.machine.DueQueues.{dues_from, waiting_of}
+pub use Rattle.windows.specs.machine.StoredPairs.{AreBefore, AreEntriesOf, AreKeepable, AreOfLast, ArePairsKept, ArePairsOf, AreRising, AreTimesOf, Stores, last_step_time, pairs_of_last}
 pub use Rattle.windows.specs.machine.WindowEntries.{AddAtMost, AddsAtMost, AddsTime, AddsTimes, AreLeast, AreWindowEntries, Forgets, ForgetsTimes, GivesRow, GivesSomeRow, HasBehind, HasTime, IsAnyRow}
-pub use Rattle.windows.specs.machine.WindowEntries.{IsSettledRow, IsSomeIn, KeepsRows, RowSurvives}
+pub use Rattle.windows.specs.machine.WindowEntries.{IsSomeIn, KeepsRows, RowSurvives, count_pairs, count_times}
 pub use Rattle.windows.specs.machine.Windows.{AnswersBy, AnswersNow, AreTables, FitsColumns, HasLeast, HasRow, HasRowAfterStep, IsCommittedBy, IsWalkedLater, IsWalkedNow, IsWindow, KeepsLeast}
 pub use Rattle.windows.specs.machine.Windows.{StandsForSteps, StandsWithStep, SurvivesFor, TellsFor, Window, WindowKeeps, WindowRemembers, WindowRemembersIn, kept_entries}
 pub use Rattle.windows.specs.meaning.KeptPairs.{ChosenBy, IsPairBefore, IsRisingBy, pair}

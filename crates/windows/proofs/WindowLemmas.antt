@@ -266,22 +266,22 @@ keeps_least interval columns last es distinct kept least = record {
   unique = kept_once es kept.unique;
 }
 
-pub window_least : (interval : Interval) (columns : List VarId) (last : ℕ) (es : List (List Value × List ℕ)) (queue : Queue) (index : Option PartIndex)
-    → IsWindow interval columns last es queue index
+pub window_least : (interval : Interval) (columns : List VarId) (last : ℕ) (es : List (List Value × List ℕ)) (queue : Queue) (index : Option PartIndex) (pairs : ℕ)
+    → IsWindow interval columns last es queue index pairs
     → KeepsLeast (record { interval = interval; columns = columns; last = last; kept = kept_entries es })
-window_least interval columns last es queue index is = keeps_least interval columns last es is.distinct is.kept is.least
+window_least interval columns last es queue index pairs is = keeps_least interval columns last es is.distinct is.kept is.least
 
 -- with another index of the same rows
-pub window_by : (interval : Interval) (columns : List VarId) (last : ℕ) (es : List (List Value × List ℕ)) (queue : Queue) (index other : Option PartIndex)
-    → IfSome other (IsIndexOf columns (rows_of es)) → IsWindow interval columns last es queue index → IsWindow interval columns last es queue other
-window_by interval columns last es queue index other indexed is = record {
+pub window_by : (interval : Interval) (columns : List VarId) (last : ℕ) (es : List (List Value × List ℕ)) (queue : Queue) (index other : Option PartIndex) (pairs : ℕ)
+    → IfSome other (IsIndexOf columns (rows_of es)) → IsWindow interval columns last es queue index pairs → IsWindow interval columns last es queue other pairs
+window_by interval columns last es queue index other pairs indexed is = record {
   distinct = is.distinct;
   kept = is.kept;
   least = is.least;
-  up_to = is.up_to;
-  in_reach = is.in_reach;
   queued = is.queued;
   indexed = indexed;
+  compact = is.compact;
+  counted = is.counted;
 }
 
 module _ (interval : Interval) (columns : List VarId) (last time : ℕ) (es left middle after : List (List Value × List ℕ)) (s : Surviving) (right : Relation) (distinct : HasNoRepeats columns)

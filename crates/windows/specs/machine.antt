@@ -3,9 +3,10 @@ pub mod StoredTimes
 pub mod WindowEntries
 pub mod RowQueries
 pub mod RowIndexes
+pub mod RowParts
 pub mod Slots
 pub mod CommittedSteps
-pub mod StepQueues
+pub mod DueQueues
 pub mod Windows
 pub mod AnswerTables
 pub mod StoredPairs

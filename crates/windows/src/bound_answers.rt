@@ -35,7 +35,7 @@ fn is_as_bound(bound: Option<&Value>, value: &Value) -> bool
 }
 
 // Whether the row has the valuation's value of each column that it binds.
-fn are_as_bound<V: Lookup>(columns: &[VarId], v: &V, row: &[Value]) -> bool
+pub fn are_as_bound<V: Lookup>(columns: &[VarId], v: &V, row: &[Value]) -> bool
     ensures { result ≡ are_cells_as_bound (cells columns.now (V.valuation v.now)) row.now }
 {
     for (column, value) in columns.iter().zip(row) {
@@ -47,7 +47,7 @@ fn are_as_bound<V: Lookup>(columns: &[VarId], v: &V, row: &[Value]) -> bool
 }
 
 // Whether the row survives, agrees, and has a time at a distance in the interval.
-fn is_given_under<V: Lookup>(
+pub fn is_given_under<V: Lookup>(
     row: &Row,
     times: &Times,
     query: RowQuery<'_, V>,

@@ -25,7 +25,7 @@ impl Duplicate for SinceWindow {
             entries: copy_entries(alloc, &self.entries)?,
             queue: self.queue.duplicate(alloc)?,
             index,
-            looked_up: self.looked_up,
+            pairs: self.pairs,
         })
     }
 }

@@ -1,17 +1,20 @@
 //! Rows with their times, as a window keeps them: each call is one look-up, or one for each row that it is given.
-ghost use Rattle.std.specs.Prelude.{◌≡◌, ◌↔◌, ◌⊎◌, ℕ, List, Some, IsTrue, OnOk, Contains, length};
-ghost use Rattle.std.specs.Prelude.{All, IfSome, map};
+ghost use Rattle.std.specs.Prelude.{◌≡◌, ◌≤◌, ◌↔◌, ◌⊎◌, ℕ, List, Some, IsTrue, OnOk, Contains, length};
+ghost use Rattle.std.specs.Prelude.{IfOk, IfSome, map};
 ghost use Rattle.enf_data.specs.meaning.Membership.{IsIn};
 ghost use Rattle.enf_data.specs.declared.values.Value.{Value as AnyValue};
 ghost use Rattle.valuations.specs.machine.Tables.{IsTable};
 ghost use Rattle.windows.specs.machine.RowIndexes.{IsIndexOf};
-ghost use Rattle.windows.specs.machine.RowTimes.{is_some_time};
+ghost use Rattle.windows.specs.machine.DueQueues.{AreInReach, AreUpToTime, IsQueueAt, IsSettledAt, KeepsDues};
+ghost use Rattle.windows.specs.machine.DueQueues.{due, waiting_of};
 ghost use Rattle.windows.specs.machine.Windows.{AreTables, kept_entries};
 ghost use Rattle.windows.specs.machine.WindowEntries.{AddAtMost, AddsTimes, AreWindowEntries, AreLeast, Forgets};
-ghost use Rattle.windows.specs.machine.WindowEntries.{GivesRow, GivesSomeRow, IsAnyRow, IsSettledRow, IsSomeIn};
-ghost use Rattle.windows.specs.machine.WindowEntries.{IsLetGoUnless, KeepsRows, RowSurvives, rows_of};
+ghost use Rattle.windows.specs.machine.WindowEntries.{GivesRow, GivesSomeRow, IsAnyRow, IsSomeIn};
+ghost use Rattle.windows.specs.machine.WindowEntries.{IsLetGoUnless, KeepsRows, RowSurvives, count_pairs, rows_of};
 
-use crate::row_index::{RowIndex, made_anew, note_place};
+use crate::compaction::count;
+use crate::queue::DueQueue;
+use crate::row_index::{RowIndex, note_place};
 use crate::surviving_rows::Surviving;
 use crate::times::Times;
 use enf_data::intervals::Interval;
@@ -21,88 +24,114 @@ use enf_data::rows::Row;
 use enf_data::terms::VarId;
 use indexmap::IndexMap;
 use std::alloc::Global;
-use std::mem;
 use valuations::Table;
 
 /// Rows, each with its times.
 pub type Entries = IndexMap<Row, Times>;
 
-// Adds the time to those of the row. A row that is not there goes last.
+// Adds the time to those of the row. A row that is not there goes last. There are at least so many times as `pairs`,
+// and then as the answer.
+#[inline(never)]
 pub fn add_row(
-    alloc: Global,
     entries: &mut Entries,
     index: &mut Option<RowIndex>,
+    queue: &mut DueQueue,
     among: &[VarId],
     row: &Row,
     interval: Interval,
     now: u64,
-) -> Result<(), NoMemory>
+    pairs: usize,
+) -> Result<usize, NoMemory>
     requires kept { AreWindowEntries (length row.now) now entries.old.entries }
     requires least { AreLeast interval now entries.old.entries }
     requires fits { length row.now ≡ length among.now }
     requires indexed { IfSome index.old (IsIndexOf among.now (rows_of entries.old.entries)) }
-    ensures among { AddAtMost now (λ other. other ≡ row.now) entries.old.entries entries.new.entries }
+    requires queued { IsQueueAt interval now entries.old.entries queue.old }
+    requires counted { pairs ≤ count_pairs entries.old.entries }
+    ensures among { OnOk result (AddAtMost now (λ other. other ≡ row.now)
+        entries.old.entries entries.new.entries) }
     ensures added { OnOk result (AddsTimes interval now (λ other. other ≡ row.now)
         entries.old.entries entries.new.entries) }
-    ensures kept { AreWindowEntries (length row.now) now entries.new.entries }
-    ensures least { AreLeast interval now entries.new.entries }
-    ensures indexed { IfSome index.new (IsIndexOf among.now (rows_of entries.new.entries)) }
+    ensures kept { OnOk result (AreWindowEntries (length row.now) now entries.new.entries) }
+    ensures least { OnOk result (AreLeast interval now entries.new.entries) }
+    ensures indexed { OnOk result (IfSome index.new (IsIndexOf among.now (rows_of entries.new.entries))) }
+    ensures queued { OnOk result (IsQueueAt interval now entries.new.entries queue.new) }
+    ensures counted { IfOk result (λ left. left ≤ count_pairs entries.new.entries) }
 {
-    if let Some(place) = entries.get_index_of(row) {
-        return entries[place].add(alloc, interval, now);
+    let found = entries.get_index_of(row);
+    let alloc = *entries.allocator();
+    push_due(queue, interval, now, found.unwrap_or(entries.len()))?;
+    if let Some(place) = found {
+        let more = entries[place].add(alloc, interval, now)?;
+        return Ok(pairs.saturating_add(more));
     }
     note_place(alloc, index, among, row, entries.len())?;
     entries.insert(row.duplicate(alloc)?, Times::one(now))?;
-    Ok(())
+    Ok(pairs.saturating_add(1))
 }
 
 // Adds the time to those of each row of the table.
 pub fn add_rows(
-    alloc: Global,
     entries: &mut Entries,
     index: &mut Option<RowIndex>,
+    queue: &mut DueQueue,
     right: &Table,
     interval: Interval,
     now: u64,
-) -> Result<(), NoMemory>
+    pairs: usize,
+) -> Result<usize, NoMemory>
     requires kept { AreWindowEntries (length right.now.columns) now entries.old.entries }
     requires least { AreLeast interval now entries.old.entries }
     requires indexed { IfSome index.old (IsIndexOf right.now.columns (rows_of entries.old.entries)) }
-    ensures among { AddAtMost now (Contains right.now.rows) entries.old.entries entries.new.entries }
+    requires queued { IsQueueAt interval now entries.old.entries queue.old }
+    requires counted { pairs ≤ count_pairs entries.old.entries }
+    ensures among { OnOk result (AddAtMost now (Contains right.now.rows) entries.old.entries entries.new.entries) }
     ensures added { OnOk result (AddsTimes interval now (Contains right.now.rows)
         entries.old.entries entries.new.entries) }
-    ensures kept { AreWindowEntries (length right.now.columns) now entries.new.entries }
-    ensures least { AreLeast interval now entries.new.entries }
-    ensures indexed { IfSome index.new (IsIndexOf right.now.columns (rows_of entries.new.entries)) }
+    ensures kept { OnOk result (AreWindowEntries (length right.now.columns) now entries.new.entries) }
+    ensures least { OnOk result (AreLeast interval now entries.new.entries) }
+    ensures indexed { OnOk result
+        (IfSome index.new (IsIndexOf right.now.columns (rows_of entries.new.entries))) }
+    ensures queued { OnOk result (IsQueueAt interval now entries.new.entries queue.new) }
+    ensures counted { IfOk result (λ left. left ≤ count_pairs entries.new.entries) }
 {
     let among = right.columns().as_slice();
+    let mut left = pairs;
     for row in right.rows() {
-        add_row(alloc, entries, index, among, row, interval, now)?;
+        left = add_row(entries, index, queue, among, row, interval, now, left)?;
     }
-    Ok(())
+    Ok(left)
 }
 
-// Lets the row's times go; its place stays.
-pub fn forget_row(entries: &mut Entries, row: &Row)
+// Lets the row's times go; its place stays. There are at least so many times as `pairs`, and then as the answer.
+pub fn forget_row(entries: &mut Entries, row: &Row, pairs: usize) -> usize
+    requires counted { pairs ≤ count_pairs entries.old.entries }
     ensures keeps { KeepsRows (λ other. other ≡ row.now → ⊥) entries.old.entries entries.new.entries }
     ensures rows { rows_of entries.new.entries ≡ rows_of entries.old.entries }
+    ensures counted { result ≤ count_pairs entries.new.entries }
 {
     let _given = entries.len();
-    if let Some(place) = entries.get_index_of(row) {
-        entries[place].clear();
-    }
+    let Some(place) = entries.get_index_of(row) else {
+        return pairs;
+    };
+    let lost = entries[place].clear();
+    pairs.saturating_sub(lost)
 }
 
 // So with each row of the table.
-pub fn forget_rows(entries: &mut Entries, failing: &Table)
+pub fn forget_rows(entries: &mut Entries, failing: &Table, pairs: usize) -> usize
+    requires counted { pairs ≤ count_pairs entries.old.entries }
     ensures keeps { KeepsRows (λ other. Contains failing.now.rows other → ⊥)
         entries.old.entries entries.new.entries }
     ensures rows { rows_of entries.new.entries ≡ rows_of entries.old.entries }
     ensures table { IsTable failing.now }
+    ensures counted { result ≤ count_pairs entries.new.entries }
 {
+    let mut left = pairs;
     for row in failing.rows() {
-        forget_row(entries, row);
+        left = forget_row(entries, row, left);
     }
+    left
 }
 
 // Lets the times go of the rows that are not in the table.
@@ -124,59 +153,23 @@ pub fn keep_rows(entries: &mut Entries, surviving: &Table)
     );
 }
 
-// Lets the times go of the rows that do not survive.
-// Answers how many were looked up.
-pub fn keep_surviving(entries: &mut Entries, surviving: &Surviving<'_>) -> usize
+// Lets the times go of the rows that do not survive. There are at least so many times as `pairs`, and then as the
+// answer.
+pub fn keep_surviving(entries: &mut Entries, surviving: &Surviving<'_>, pairs: usize) -> usize
+    requires counted { pairs ≤ count_pairs entries.old.entries }
     ensures keeps { KeepsRows (RowSurvives surviving.now) entries.old.entries entries.new.entries }
     ensures rows { rows_of entries.new.entries ≡ rows_of entries.old.entries }
     ensures tables { IsAnyRow entries.old.entries → AreTables surviving.now }
+    ensures counted { result ≤ count_pairs entries.new.entries }
 {
     match surviving {
-        Surviving::All => 0,
+        Surviving::All => pairs,
         Surviving::Only(rows) => {
             keep_rows(entries, rows);
-            entries.len()
+            count(entries)
         }
-        Surviving::AllBut(rows) => {
-            forget_rows(entries, rows);
-            rows.rows().len()
-        }
+        Surviving::AllBut(rows) => forget_rows(entries, rows, pairs),
     }
-}
-
-// Takes the rows out that have no times; the others stay in their order.
-fn compact(entries: &mut Entries)
-    ensures { entries.new.entries ≡ kept_entries entries.old.entries }
-{
-    entries.retain(
-        |_row: &Row, times: &mut Times| -> bool
-            ensures { (result ≡ is_some_time times.old) × (times.new ≡ times.old) }
-        { times.has_time() },
-    );
-}
-
-// Does so where so many rows were looked up since the last time that those without times may be many, and answers how
-// many were looked up since.
-pub fn compact_if_many(
-    alloc: Global,
-    entries: &mut Entries,
-    index: &mut Option<RowIndex>,
-    among: &[VarId],
-    looked_up: usize,
-) -> Result<usize, NoMemory>
-    requires fit { All (λ e. length e.0 ≡ length among.now) entries.old.entries }
-    requires indexed { IfSome index.old (IsIndexOf among.now (rows_of entries.old.entries)) }
-    ensures keeps { KeepsRows (λ row. Unit {0}) entries.old.entries entries.new.entries }
-    ensures indexed { IfSome index.new (IsIndexOf among.now (rows_of entries.new.entries)) }
-{
-    if looked_up <= (entries.len() / 8).saturating_add(64) {
-        return Ok(looked_up);
-    }
-    compact(entries);
-    let old = mem::replace(index, None);
-    let made = made_anew(alloc, &old, among, entries)?;
-    *index = made;
-    Ok(0)
 }
 
 // Whether the row survives and one of its times is at a distance in the interval.
@@ -256,31 +249,48 @@ pub fn push_now(
     Ok(())
 }
 
-// Leaves the row just the times that are not past the end, and of those that are far enough the latest.
-fn settle_row(entries: &mut Entries, row: &Row, interval: Interval, high: u64, now: u64)
+// Leaves the row at the place just the times that are not past the end, and of those that are far enough the latest.
+// There are at least so many times as `pairs`, and then as the answer.
+pub fn settle_at(
+    entries: &mut Entries,
+    place: usize,
+    interval: Interval,
+    high: u64,
+    now: u64,
+    pairs: usize,
+) -> usize
     requires high { interval.high ≡ Some high }
     requires kept { (long : ℕ) × AreWindowEntries long now entries.old.entries }
+    requires counted { pairs ≤ count_pairs entries.old.entries }
     ensures kept { (long : ℕ) → AreWindowEntries long now entries.old.entries
         → AreWindowEntries long now entries.new.entries }
     ensures forgets { Forgets interval now entries.old.entries entries.new.entries }
-    ensures settled { IsSettledRow high interval.low now entries.new.entries row.now }
+    ensures settled { IsSettledAt high interval.low now entries.new.entries place }
+    ensures counted { result ≤ count_pairs entries.new.entries }
 {
-    if let Some(place) = entries.get_index_of(row) {
-        entries[place].settle(interval.low, high, now);
+    if entries.len() <= place {
+        return pairs;
     }
+    let lost = entries[place].settle_counted(interval.low, high, now);
+    pairs.saturating_sub(lost)
 }
 
-// So with each row of the table.
-pub fn settle_rows(entries: &mut Entries, rows: &Table, interval: Interval, high: u64, now: u64)
-    requires high { interval.high ≡ Some high }
-    requires kept { (long : ℕ) × AreWindowEntries long now entries.old.entries }
-    ensures kept { (long : ℕ) → AreWindowEntries long now entries.old.entries
-        → AreWindowEntries long now entries.new.entries }
-    ensures forgets { Forgets interval now entries.old.entries entries.new.entries }
-    ensures settled { (row : List AnyValue) → Contains rows.now.rows row
-        → IsSettledRow high interval.low now entries.new.entries row }
+// Queues the time of the row at the place, where it is past the end of the interval some day.
+fn push_due(
+    queue: &mut DueQueue,
+    interval: Interval,
+    time: u64,
+    place: usize,
+) -> Result<(), NoMemory>
+    requires { AreUpToTime time queue.old.dues }
+    ensures up_to { AreUpToTime time queue.new.dues }
+    ensures in_reach { AreInReach interval.high time queue.old.dues → AreInReach interval.high time queue.new.dues }
+    ensures stays { KeepsDues queue.old queue.new }
+    ensures waits { OnOk result ((high : ℕ) → interval.high ≡ Some high
+        → Contains (waiting_of queue.new) (due time place)) }
 {
-    for row in rows.rows() {
-        settle_row(entries, row, interval, high, now);
+    if interval.high.is_some() {
+        queue.push(time, place)?;
     }
+    Ok(())
 }

@@ -1,20 +1,15 @@
 //! What windows and slots keep, as pairs of a row and a time.
-ghost use Rattle.std.specs.Prelude.{◌≡◌, ◌↔◌, [], ◌∷◌, ◌++◌, ℕ, List, None, Some, All};
-ghost use Rattle.std.specs.Prelude.{Contains, IfOk, OnOk, is_some, length, map, nat_eq};
-ghost use Rattle.std.specs.List.{list_any};
-ghost use Rattle.std.specs.Option.{option_map_or};
-ghost use Rattle.indexmap.specs.IndexMap.{get};
+ghost use Rattle.std.specs.Prelude.{◌≡◌, ◌↔◌, [], ◌∷◌, ◌++◌, ℕ, List, All, Contains, IfOk, OnOk, length, map};
 ghost use Rattle.enf_data.specs.meaning.Membership.{HasNoRepeats};
 ghost use Rattle.enf_data.specs.declared.values.Value.{Value as AnyValue};
 ghost use Rattle.windows.specs.meaning.KeptPairs.{pair};
-ghost use Rattle.windows.specs.machine.StoredPairs.{AreBefore, AreEntriesOf, AreRising, AreTimesOf, HaveStepsOf};
-ghost use Rattle.windows.specs.machine.StoredPairs.{HaveTimesOf, rows_at};
+ghost use Rattle.windows.specs.machine.StoredPairs.{AreBefore, AreEntriesOf, AreRising, AreTimesOf};
 ghost use Rattle.windows.specs.machine.WindowEntries.{AreWindowEntries};
 ghost use Rattle.windows.specs.declared.kept_pairs.KeptPair.{KeptPair as Pair};
 
+use crate::compaction::{count, queue_of};
 use crate::entries::Entries;
 use crate::prev_slot::PrevSlot;
-use crate::queue::StepQueue;
 use crate::since::SinceWindow;
 use crate::steps::LastStep;
 use crate::times::Times;
@@ -72,8 +67,9 @@ impl SinceWindow {
         ensures exact { IfOk result (λ w. ArePairsOf w pairs.items) }
         ensures least { IfOk result KeepsLeast }
     {
-        let queue = queue_of(alloc, interval, &columns, &pairs)?;
         let entries = entries_of(alloc, pairs)?;
+        let queue = queue_of(alloc, interval, last, &entries)?;
+        let pairs = count(&entries);
         Ok(SinceWindow {
             interval,
             columns,
@@ -81,7 +77,7 @@ impl SinceWindow {
             entries,
             queue,
             index: None,
-            looked_up: 0,
+            pairs,
         })
     }
 }
@@ -214,57 +210,6 @@ fn put_time(alloc: Global, entries: &mut Entries, pair: KeptPair) -> Result<(), 
     }
     entries.insert(pair.row, Times::one(pair.time))?;
     Ok(())
-}
-
-// A step for each time of the pairs, where the interval has an end.
-fn queue_of(
-    alloc: Global,
-    interval: Interval,
-    columns: &Vars,
-    pairs: &[KeptPair],
-) -> Result<StepQueue, NoMemory>
-    requires distinct { HasNoRepeats columns.now }
-    requires fit { All (λ p. length p.row ≡ length columns.now) pairs.now }
-    ensures far { IfOk result (λ queue. queue.far ≡ 0) }
-    ensures none { IfOk result (λ queue. interval.high ≡ None → queue.steps ≡ []) }
-    ensures within { IfOk result (λ queue. HaveTimesOf pairs.now queue.steps) }
-    ensures steps { IfOk result
-        (λ queue. (high : ℕ) → interval.high ≡ Some high → HaveStepsOf pairs.now queue.steps) }
-{
-    if interval.high.is_none() {
-        return Ok(StepQueue::new(alloc));
-    }
-    Ok(StepQueue::from_steps(steps_of(alloc, columns, pairs)?))
-}
-
-fn steps_of(alloc: Global, columns: &Vars, pairs: &[KeptPair]) -> Result<Vec<LastStep>, NoMemory>
-    requires distinct { HasNoRepeats columns.now }
-    requires fit { All (λ p. length p.row ≡ length columns.now) pairs.now }
-    ensures within { IfOk result (λ steps. HaveTimesOf pairs.now steps.items) }
-    ensures steps { IfOk result (λ steps. HaveStepsOf pairs.now steps.items) }
-{
-    let mut steps = Vec::new(alloc);
-    for (time, rows) in rows_by_time(alloc, pairs)? {
-        let rows = Table::from_rows(columns.duplicate(alloc)?, rows)?;
-        steps.push(LastStep { time, rows })?;
-    }
-    Ok(steps)
-}
-
-// The times of the pairs, each with the rows of its pairs.
-fn rows_by_time(alloc: Global, pairs: &[KeptPair]) -> Result<IndexMap<u64, Vec<Row>>, NoMemory>
-    ensures times { IfOk result (λ by_time. (time : ℕ) → is_some (get nat_eq by_time time)
-        ≡ list_any (λ p. nat_eq time p.time) pairs.now) }
-    ensures rows { IfOk result
-        (λ by_time. (time : ℕ) → option_map_or (λ rows. rows.items) (get nat_eq by_time time) []
-        ≡ rows_at time pairs.now) }
-{
-    let mut by_time: IndexMap<u64, Vec<Row>> = IndexMap::new(alloc);
-    for pair in pairs {
-        let row = pair.row.duplicate(alloc)?;
-        by_time.entry(pair.time)?.or_default().push(row)?;
-    }
-    Ok(by_time)
 }
 
 // The table of the pairs' rows.

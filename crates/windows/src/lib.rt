@@ -3,6 +3,8 @@
 #![tactic(auto)]
 
 mod bound_answers;
+mod commits;
+mod compaction;
 mod copies;
 mod entries;
 mod expiry;
@@ -12,7 +14,9 @@ pub mod prev_slot;
 mod queue;
 mod row_answers;
 mod row_index;
+mod row_parts;
 mod row_query;
+mod row_searches;
 pub mod since;
 pub mod steps;
 pub mod surviving_rows;

@@ -1,13 +1,14 @@
 //! What a window answers to one question: each is a look-up, and no table is made where it asks for one row.
 ghost use Rattle.std.specs.Prelude.{◌≡◌, ◌↔◌, ◌≤◌, IsTrue, IfOk, length};
 ghost use Rattle.enf_data.specs.meaning.Membership.{HasNoRepeats};
-ghost use Rattle.enf_data.specs.meaning.Valuations.{Valuation as Bound};
+ghost use Rattle.enf_data.specs.meaning.Valuations.{BindsColumns, Valuation as Bound};
 ghost use Rattle.valuations.specs.machine.Tables.{AgreesWithRow, AgreesWhereBound, HasValuation, IsTable};
 ghost use Rattle.windows.specs.machine.Windows.{SurvivesFor};
 
 use crate::bound_answers::{push_given_by, push_now_under};
 use crate::prev_slot::PrevSlot;
 use crate::row_query::{RowQuery, row_of};
+use crate::row_searches::{has_given_by, has_now_under};
 use crate::since::SinceWindow;
 use crate::surviving_rows::Surviving;
 use enf_data::items::Duplicate;
@@ -62,6 +63,38 @@ impl SinceWindow {
             }
             None => self.agreeing(alloc, time, surviving, right, v),
         }
+    }
+
+    /// Whether there are such rows: the first that is found is enough. It takes no memory.
+    pub fn has_some<V: Lookup>(
+        &self,
+        time: u64,
+        surviving: &Surviving<'_>,
+        right: &Table,
+        v: &V,
+    ) -> bool
+        requires later { self.now.last ≤ time }
+        requires surviving_columns { FitsColumns self.now.columns surviving.now }
+        requires right_columns { right.now.columns ≡ self.now.columns }
+        ensures { IsTrue result ↔ ((w : Bound) × BindsColumns w self.now.columns
+            × AnswersBy self.now time (SurvivesFor surviving.now) right.now w
+            × AgreesWhereBound self.now.columns (V.valuation v.now) w) }
+    {
+        let query = RowQuery {
+            columns: self.columns.as_slice(),
+            values: v,
+        };
+        if has_now_under(right, query, self.interval) {
+            return true;
+        }
+        has_given_by(
+            &self.entries,
+            &self.index,
+            query,
+            surviving,
+            self.interval,
+            time,
+        )
     }
 
     // The rows that hold at a step and agree with the valuation, by the index where the valuation binds its columns,

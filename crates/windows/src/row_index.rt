@@ -138,6 +138,16 @@ impl RowIndex {
     }
 }
 
+// Whether the columns are some of these, and not all.
+pub fn are_some_of(columns: &[VarId], among: &[VarId]) -> bool
+    ensures { IsTrue result → (x : AnyVariable) → Contains columns.now x → Contains among.now x }
+{
+    if columns.is_empty() || columns.len() >= among.len() {
+        return false;
+    }
+    columns.iter().all(|column| among.contains(column))
+}
+
 // Notes the place of a row, where there is an index.
 pub fn note_place(
     alloc: Global,

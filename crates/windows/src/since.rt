@@ -1,16 +1,14 @@
 //! Windows of the operators `since`, `once` and `historically`.
-ghost use Rattle.std.specs.Prelude.{◌≡◌, ◌↔◌, ◌≤◌, ℕ, [], Contains, IfOk, OnOk, OnErr};
-ghost use Rattle.enf_data.specs.declared.terms.VarId.{VarId as AnyVariable};
+ghost use Rattle.std.specs.Prelude.{◌≡◌, ◌↔◌, ◌≤◌, ◌+◌, ◌*◌, ℕ, [], IfOk, OnOk, length};
 ghost use Rattle.enf_data.specs.meaning.Membership.{HasNoRepeats};
 ghost use Rattle.enf_data.specs.meaning.Valuations.{Valuation as Bound};
 ghost use Rattle.valuations.specs.machine.Tables.{IsTable, HasValuation};
 
-use crate::entries::{
-    Entries, add_rows, compact_if_many, keep_surviving, push_all, push_given, push_now,
-};
-use crate::expiry::{forget_steps, push_step};
-use crate::queue::StepQueue;
-use crate::row_index::RowIndex;
+use crate::commits::add_step;
+use crate::entries::{Entries, keep_surviving, push_all, push_given, push_now};
+use crate::expiry::forget_dues;
+use crate::queue::DueQueue;
+use crate::row_index::{RowIndex, are_some_of};
 use crate::surviving_rows::Surviving;
 use enf_data::intervals::Interval;
 use enf_data::items::Duplicate;
@@ -30,12 +28,12 @@ pub struct SinceWindow {
     pub(crate) columns: Vars,
     pub(crate) last: u64,
     pub(crate) entries: Entries,
-    // of an interval with an end, the steps that brought these rows
-    pub(crate) queue: StepQueue,
+    // of an interval with an end, the times of these rows
+    pub(crate) queue: DueQueue,
     // where rows are looked up by a part of them, their places by it
     pub(crate) index: Option<RowIndex>,
-    // how many rows were looked up since those without times were taken out
-    pub(crate) looked_up: usize,
+    // of how many times is known that the rows have them
+    pub(crate) pairs: usize,
 }
 
 impl Model for SinceWindow {
@@ -50,10 +48,11 @@ impl Model for SinceWindow {
       kept = kept_entries w.entries.entries;
     } };
 
-    ghost invariant = { λ w. IsWindow w.interval w.columns w.last w.entries.entries w.queue w.index };
+    ghost invariant = { λ w. IsWindow w.interval w.columns w.last w.entries.entries w.queue w.index w.pairs };
 }
 
 impl SinceWindow {
+    ghost use Rattle.windows.specs.machine.WindowEntries.{count_pairs};
     ghost use Rattle.windows.specs.machine.Windows.{StandsForSteps, HasRow, WindowKeeps, KeepsLeast, AnswersBy};
     ghost use Rattle.windows.specs.machine.Windows.{AnswersNow, FitsColumns, IsWalkedNow, IsWalkedLater, IsCommitted};
     ghost use Rattle.windows.specs.machine.Windows.{IsCommittedBy, IsSameKind, StandsWithStep, SurvivesFor};
@@ -72,9 +71,9 @@ impl SinceWindow {
             columns,
             last: 0,
             entries: IndexMap::new(alloc),
-            queue: StepQueue::new(alloc),
+            queue: DueQueue::new(alloc),
             index: None,
-            looked_up: 0,
+            pairs: 0,
         }
     }
 
@@ -92,15 +91,27 @@ impl SinceWindow {
         &self.columns
     }
 
-    /// Looks rows up by these columns, which are among its own, without a look at the others, where it has no such
-    /// columns yet. Nothing else changes.
+    /// How many rows it holds, or how many times of rows that end some day, whichever are more. Rows and times that it
+    /// need not keep are among them, but they are never many.
+    pub fn held(&self) -> usize
+        ensures least { length self.now.kept ≤ result }
+        ensures most { result ≤ 2 * count_pairs self.now.kept + 64 }
+    {
+        self.entries.len().max(self.queue.len())
+    }
+
+    /// Looks rows up by these columns without a look at the others, where they are some of its own, and it looks rows up
+    /// by none yet. Nothing else changes.
     pub fn index_by(&mut self, columns: Vars) -> Result<(), NoMemory>
-        requires { (x : AnyVariable) → Contains columns x → Contains self.old.columns x }
         ensures { self.new ≡ self.old }
     {
-        if self.index.is_none() {
+        if self.index.is_some() {
+            return Ok(());
+        }
+        let among = self.columns.as_slice();
+        if are_some_of(columns.as_slice(), among) {
             let alloc = *self.entries.allocator();
-            let index = RowIndex::of(alloc, columns, self.columns.as_slice(), &self.entries)?;
+            let index = RowIndex::of(alloc, columns, among, &self.entries)?;
             self.index = Some(index);
         }
         Ok(())
@@ -200,22 +211,33 @@ impl SinceWindow {
         ensures ok { OnOk result (IsCommittedBy self.old time (SurvivesFor surviving.now) right.now self.new) }
         ensures kind { IsSameKind self.old self.new }
     {
-        let alloc = *self.entries.allocator();
-        push_step(alloc, &mut self.queue, self.interval, time, right)?;
-        let passed = forget_steps(&mut self.entries, &mut self.queue, self.interval, time);
-        let let_go = keep_surviving(&mut self.entries, surviving);
+        let left = forget_dues(
+            &mut self.entries,
+            &mut self.queue,
+            self.interval,
+            time,
+            self.pairs,
+        );
+        let left = keep_surviving(&mut self.entries, surviving, left);
         self.last = time;
-        let many = self.looked_up.saturating_add(passed).saturating_add(let_go);
-        let among = self.columns.as_slice();
-        let looked_up = compact_if_many(alloc, &mut self.entries, &mut self.index, among, many)?;
-        self.looked_up = looked_up;
-        add_rows(
-            alloc,
+        let added = add_step(
             &mut self.entries,
             &mut self.index,
+            &mut self.queue,
             right,
             self.interval,
             time,
-        )
+            left,
+        );
+        match added {
+            Ok(pairs) => {
+                self.pairs = pairs;
+                Ok(())
+            }
+            Err(error) => {
+                self.pairs = 0;
+                Err(error)
+            }
+        }
     }
 }

@@ -1,5 +1,5 @@
 //! The times at which one row was right, of which only those are kept that a later step can ask for.
-ghost use Rattle.std.specs.Prelude.{◌≡◌, ◌↔◌, ◌++◌, ◌∷◌, [], ◌-◌, ◌<◌, ◌≤◌, ◌⊎◌, ℕ, IfOk, OnErr, OnOk};
+ghost use Rattle.std.specs.Prelude.{◌≡◌, ◌↔◌, ◌++◌, ◌∷◌, [], ◌+◌, ◌-◌, ◌<◌, ◌≤◌, ◌⊎◌, ℕ, IfOk, OnErr, OnOk};
 ghost use Rattle.std.specs.Prelude.{All, IsFalse, IsTrue, Some, Contains, get_or, length, slice_get};
 ghost use Rattle.windows.specs.machine.StoredTimes.{stored_times};
 ghost use Rattle.windows.specs.machine.WindowEntries.{AddsAtMost, AddsTime, IsSomeIn, SettlesTimes};
@@ -14,8 +14,7 @@ use std::alloc::Global;
 use std::collections::VecDeque;
 use std::marker::Model;
 
-/// The times of a row in order, seen as the list of them. One takes no memory, and there is no more than one where the
-/// interval begins at 0 or has no end. A row that was let go has none.
+/// The times of a row in order, seen as the list of them. One takes no memory. A row that was let go has none.
 #[derive(Debug, Drop)]
 pub struct Times {
     stored: Stored,
@@ -61,11 +60,14 @@ impl Times {
         }
     }
 
-    // Lets all times go.
-    pub fn clear(&mut self)
-        ensures { self.new ≡ [] }
+    // Lets all times go. Answers how many there were.
+    pub fn clear(&mut self) -> usize
+        ensures cleared { self.new ≡ [] }
+        ensures count { result ≡ length self.old }
     {
+        let count = self.len();
         self.stored = Stored::Empty;
+        count
     }
 
     // How many times there are.
@@ -120,26 +122,34 @@ impl Times {
         Ok(())
     }
 
-    // Adds the time. Of an interval without end the earliest is kept alone.
-    pub fn add(&mut self, alloc: Global, interval: Interval, now: u64) -> Result<(), NoMemory>
+    // Adds the time, and answers how many more there are. Of an interval without end the earliest is kept alone, and of
+    // one that begins at 0 the latest.
+    pub fn add(&mut self, alloc: Global, interval: Interval, now: u64) -> Result<usize, NoMemory>
         requires rise { RiseTo now self.old }
         requires least { (self.old ≡ []) ⊎ AreLeastTimes interval.high interval.low now self.old }
-        ensures among { AddsAtMost now self.old self.new }
+        ensures among { OnOk result (AddsAtMost now self.old self.new) }
         ensures added { OnOk result (AddsTime interval now self.old self.new) }
-        ensures rise { RiseTo now self.new }
-        ensures least { AreLeastTimes interval.high interval.low now self.new }
+        ensures rise { OnOk result (RiseTo now self.new) }
+        ensures least { OnOk result (AreLeastTimes interval.high interval.low now self.new) }
+        ensures count { IfOk result (λ more. length self.new ≡ length self.old + more) }
+        ensures err { OnErr result (self.new ≡ self.old) }
     {
         if !self.has_time() {
             self.stored = Stored::One(now);
-            return Ok(());
+            return Ok(1);
         }
-        let Some(high) = interval.high else {
-            return Ok(());
+        let Some(_high) = interval.high else {
+            return Ok(0);
         };
         if self.ends_with(now) {
-            return Ok(());
+            return Ok(0);
         }
-        self.push_settled(alloc, interval.low, high, now)
+        if interval.low == 0 {
+            self.stored = Stored::One(now);
+            return Ok(0);
+        }
+        self.push(alloc, now)?;
+        Ok(1)
     }
 
     // Whether the time is the last of them.
@@ -153,32 +163,20 @@ impl Times {
         }
     }
 
-    // Puts the time last, which is later than the others, and forgets those before it that a later step need not have.
-    fn push_settled(&mut self, alloc: Global, low: u64, high: u64, now: u64) -> Result<(), NoMemory>
-        requires rise { RiseTo now self.old }
-        requires later { Contains self.old now → ⊥ }
-        ensures settles { OnOk result (SettlesTimes high low now (self.old ++ now ∷ []) self.new) }
-        ensures err { OnErr result (self.new ≡ self.old) }
+    // Forgets the times that are past the end, and of those that are far enough all but the latest. Answers how many
+    // went.
+    pub fn settle_counted(&mut self, low: u64, high: u64, now: u64) -> usize
+        requires { RiseTo now self.old }
+        ensures settles { SettlesTimes high low now self.old self.new }
+        ensures lost { length self.old ≤ length self.new + result }
     {
-        let first = match &mut self.stored {
-            Stored::Several(times) => {
-                put_last(times, now)?;
-                settle_all(times, low, high, now);
-                return Ok(());
-            }
-            Stored::One(first) => *first,
-            Stored::Empty => {
-                self.stored = Stored::One(now);
-                return Ok(());
-            }
-        };
-        let stored = two_settled(alloc, first, low, high, now)?;
-        self.stored = stored;
-        Ok(())
+        let count = self.len();
+        self.settle(low, high, now);
+        count.saturating_sub(self.len())
     }
 
-    // Forgets the times that are past the end, and of those that are far enough all but the latest.
-    pub fn settle(&mut self, low: u64, high: u64, now: u64)
+    // Forgets those times.
+    fn settle(&mut self, low: u64, high: u64, now: u64)
         requires { RiseTo now self.old }
         ensures { SettlesTimes high low now self.old self.new }
     {
@@ -258,17 +256,6 @@ fn two_times(alloc: Global, first: u64, second: u64) -> Result<Box<VecDeque<u64>
     times.push_back(first)?;
     times.push_back(second)?;
     Ok(Box::new(alloc, times)?)
-}
-
-// Of two times the second, where the first is passed, and else both.
-fn two_settled(alloc: Global, first: u64, low: u64, high: u64, now: u64) -> Result<Stored, NoMemory>
-    requires { first < now }
-    ensures { IfOk result (λ stored. SettlesTimes high low now (first ∷ now ∷ []) (stored_times stored)) }
-{
-    if is_passed(first, now, low, high, now) {
-        return Ok(Stored::One(now));
-    }
-    Ok(Stored::Several(two_times(alloc, first, now)?))
 }
 
 fn copy_times(alloc: Global, times: &VecDeque<u64>) -> Result<Box<VecDeque<u64>>, NoMemory>

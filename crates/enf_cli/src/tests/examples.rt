@@ -1,4 +1,4 @@
-//! The examples: these are the bytes of the files in examples/.
+//! The examples, and a generated log: these are the bytes of the files in examples/ and tests/generated/.
 use super::calm::{SIGNATURE, checked, enforced};
 use enf_run::refusals::Status;
 use std::test::Fail;

@@ -1,7 +1,8 @@
 -- What is known of the adapters over std: which call of the outside each of theirs is, and how errors are counted.
 use Rattle.std.specs.IoError.{error_kind}
+use Rattle.std.specs.Io.KnownBytes.{append_known}
 use Rattle.std.specs.Prelude.{ℕ, None, false, Result, Ok, Err, ◌==◌, List, [], ◌∷◌, if◌then◌else◌}
-use Rattle.std.specs.Prelude.{◌≡◌}
+use Rattle.std.specs.Prelude.{◌≡◌, ◌<◌, ◌++◌, ◌⊎◌, drop, length, IfErr, OnOk, Option}
 use Rattle.std.specs.declared.io.Error.{Error}
 use Rattle.std.specs.declared.io.ErrorKind.{ErrorKind}
 use Rattle.std.specs.declared.io.ErrorKind.TheVariants.{OutOfMemory}
@@ -15,11 +16,14 @@ pub record AdaptedOutput (O : Type 0) : Type 0 where
   pub writer : O
   pub write_faults : ℕ
 
--- a reader, the errors at reads so far, and the output
+-- a reader, the errors at reads so far, the output, what is held back of the bytes given to it, and at how many reads
+-- some were
 pub record AdaptedPair (I O : Type 0) : Type 0 where
   pub reader : I
   pub read_faults : ℕ
   pub output : AdaptedOutput O
+  pub held : List ℕ
+  pub late_reads : ℕ
 
 -- files, and the errors so far, at reads and at writes
 pub record AdaptedFiles (F : Type 0) : Type 0 where
@@ -27,9 +31,24 @@ pub record AdaptedFiles (F : Type 0) : Type 0 where
   pub read_faults : ℕ
   pub write_faults : ℕ
 
--- a device of the outside tells no bytes
-abbrev pub untold_stream : ℕ → ℕ → Stream
-untold_stream reads writes = record { told = None; read_faults = reads; write_faults = writes }
+-- a writer of the outside tells no bytes, and nothing given to it is held back
+abbrev pub untold_output : {O : Type 0} → AdaptedOutput O → Stream
+untold_output x =
+    record { told = None; read_faults = 0; write_faults = x.write_faults; held = 0; late_reads = 0 }
+
+-- nor do a reader and a writer
+abbrev pub untold_pair : {I O : Type 0} → AdaptedPair I O → Stream
+untold_pair x = record {
+  told = None;
+  read_faults = x.read_faults;
+  write_faults = x.output.write_faults;
+  held = length x.held;
+  late_reads = x.late_reads;
+}
+
+-- the bytes that a writer has, where they are known, and those that are held back behind them
+abbrev pub with_held : {I O : Type 0} → (O → Option (List ℕ)) → AdaptedPair I O → Option (List ℕ)
+with_held contents x = append_known (contents x.output.writer) x.held
 
 -- files of the outside: no contents, and a fault at one counts for every name
 abbrev pub untold_files : {F : Type 0} → AdaptedFiles F → FileView
@@ -65,6 +84,47 @@ pub record IsOneCall {A B : Type 0} (gives : A → Type 0) (made : A → B) (res
   pub answer : A
   pub called : gives answer
   pub told : result ≡ made answer
+
+-- calls of a writer, one after another: each is given what those before it left, and takes so many bytes of that, not
+-- none
+abbrev pub TakesInTurns : {O : Type 0} → (O → List ℕ → Result ℕ Error → O → Type 0) → O → (bytes : List ℕ)
+    → (counts : List ℕ) → (left : List ℕ) → O → Type 0
+TakesInTurns gives before bytes [] left after = (left ≡ bytes) × (after ≡ before)
+TakesInTurns {O = O} gives before bytes (count ∷ counts) left after = (0 < count) × (between : O)
+    × gives before bytes (Ok count) between × TakesInTurns gives between (drop count bytes) counts left after
+
+-- what was held back went to a writer in turns, until nothing was left; or until one call failed, the last, and what it
+-- was given is held back still
+pub record HandsOn {O T : Type 0} (gives : O → List ℕ → Result ℕ Error → O → Type 0) (result : Result T IoRefusal)
+    (held left : List ℕ) (before after : O) : Type 0 where
+  pub counts : List ℕ
+  pub between : O
+  pub turns : TakesInTurns gives before held counts left between
+  pub whole : OnOk result ((left ≡ []) × (after ≡ between))
+  pub failed : IfErr result (λ why.
+      IsOneCall (λ answer. gives between left answer after) (adapted_write left) (Err why))
+
+-- a piece was kept behind what is held back, with no call
+pub record KeepsPiece {O : Type 0} (bytes : List ℕ) (result : Result ℕ IoRefusal) (held held' : List ℕ)
+    (before after : O) : Type 0 where
+  pub all : result ≡ Ok (length bytes)
+  pub behind : held' ≡ held ++ bytes
+  pub same : after ≡ before
+
+-- what was held back was handed on, all of it, and then the piece was kept, or went on by one call
+pub record SendsPiece {O : Type 0} (gives : O → List ℕ → Result ℕ Error → O → Type 0) (bytes : List ℕ)
+    (result : Result ℕ IoRefusal) (held held' : List ℕ) (before after : O) : Type 0 where
+  pub between : O
+  pub first : HandsOn {T = Unit {0}} gives (Ok tt) held [] before between
+  pub piece : KeepsPiece bytes result [] held' between after ⊎ ((held' ≡ [])
+      × IsOneCall (λ answer. gives between bytes answer after) (adapted_write bytes) result)
+
+-- how a piece is given to a writer past what is held back; where that was not handed on, nothing of the piece is taken
+abbrev pub GivesPiece : {O : Type 0} → (O → List ℕ → Result ℕ Error → O → Type 0) → (bytes : List ℕ)
+    → Result ℕ IoRefusal → (held held' : List ℕ) → (before after : O) → Type 0
+GivesPiece gives bytes result held held' before after = KeepsPiece bytes result held held' before after
+    ⊎ (SendsPiece gives bytes result held held' before after
+    ⊎ ((why : IoRefusal) × (result ≡ Err why) × HandsOn {T = Unit {0}} gives (Err why) held held' before after))
 
 -- a file that one call opened is asked by one call more; where it was not opened, that is the answer
 abbrev pub AsksFile : {F T : Type 0} → (F → Result T Error → F → Type 0) → Result F Error

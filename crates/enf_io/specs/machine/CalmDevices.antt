@@ -10,9 +10,9 @@ pub record CalmExchange : Type 0 where
   pub exchange : Exchange
   pub pieces : List ℕ
 
--- a device that tells this exchange and has no faults
+-- a device that tells this exchange, has no faults and holds nothing back
 abbrev pub calm_stream : Exchange → Stream
-calm_stream x = record { told = Some x; read_faults = 0; write_faults = 0 }
+calm_stream x = record { told = Some x; read_faults = 0; write_faults = 0; held = 0; late_reads = 0 }
 
 -- an exchange of a device without an input that was given these bytes
 abbrev pub given_alone : List ℕ → Exchange

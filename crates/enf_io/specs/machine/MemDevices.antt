@@ -60,12 +60,14 @@ after_read (Err Failed) x = record x {
 }
 after_read (Err NoMemory) x = x
 
--- all that is seen of such a gate
+-- all that is seen of such a gate, which holds nothing back
 abbrev pub mem_stream : MemExchange → Stream
 mem_stream x = record {
   told = Some (record { input = x.input; taken = x.taken; given = x.output.given; marks = x.marks });
   read_faults = x.read_faults;
   write_faults = x.output.write_faults;
+  held = 0;
+  late_reads = 0;
 }
 
 -- all that is seen of an output alone
@@ -74,6 +76,8 @@ mem_output x = record {
   told = Some (record { input = []; taken = 0; given = x.given; marks = [] });
   read_faults = 0;
   write_faults = x.write_faults;
+  held = 0;
+  late_reads = 0;
 }
 
 -- the files by name, the numbers of the calls that fail, the calls so far, and the counts, each for all names

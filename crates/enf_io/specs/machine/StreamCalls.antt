@@ -1,7 +1,7 @@
--- What a read, a write, and a write in full do to a gate or a sink.
+-- What a read, a write, a flush, and a write in full do to a gate or a sink.
 use Rattle.std.specs.Option.{option_map}
 use Rattle.std.specs.Prelude.{ℕ, ◌+◌, [], ◌∷◌, ◌++◌, length, ◌≡◌, List, take, Option, IfSome}
-use Rattle.std.specs.Prelude.{◌≤◌, Result, IfOk, IsErrOf, ◌<◌, OnErr, Ok, Err, OnOk, IfErr}
+use Rattle.std.specs.Prelude.{◌≤◌, Result, IfOk, IsErrOf, ◌<◌, OnErr, Ok, Err, OnOk, IfErr, ◌==◌, if◌then◌else◌}
 use Rattle.enf_io.specs.declared.devices.IoRefusal.{IoRefusal}
 use Rattle.enf_io.specs.declared.devices.IoRefusal.TheVariants.{Failed, NoMemory}
 use Rattle.enf_io.specs.declared.writing.WriteRefusal.{WriteRefusal}
@@ -33,6 +33,10 @@ pub record Took (bytes : List ℕ) (before after : Option Exchange) : Type 0 whe
 abbrev pub TookNothing : Option Exchange → Option Exchange → Type 0
 TookNothing before after = after ≡ option_map with_read_mark before
 
+-- at how many reads some bytes were held back, after a read that began with so many of them
+abbrev pub late_after : (held late : ℕ) → ℕ
+late_after held late = if held == 0 then late else one_more late
+
 -- a read that leaves these bytes in its buffer: it gives the next bytes of the input, and 0 only at the end; each
 -- read but one for which memory ran out notes its mark
 pub record Reads (buf : List ℕ) (result : Result ℕ IoRefusal) (before after : Stream) : Type 0 where
@@ -43,8 +47,16 @@ pub record Reads (buf : List ℕ) (result : Result ℕ IoRefusal) (before after 
   pub no_memory : IsErrOf result NoMemory → after.told ≡ before.told
   pub reads : after.read_faults ≡ faults_after result before.read_faults
   pub writes : after.write_faults ≡ before.write_faults
+  pub held : after.held ≡ before.held
+  pub late : after.late_reads ≡ late_after before.held before.late_reads
 
--- a write of these bytes: it gives the front of them, and something of bytes that are not none
+-- how many bytes a write took
+abbrev pub count_taken : Result ℕ IoRefusal → ℕ
+count_taken (Ok count) = count
+count_taken (Err why) = 0
+
+-- a write of these bytes: it gives the front of them, and something of bytes that are not none; some of what it gives
+-- may be held back
 pub record Writes (bytes : List ℕ) (result : Result ℕ IoRefusal) (before after : Stream) : Type 0 where
   pub within : IfOk result (λ count. count ≤ length bytes)
   pub some : IfOk result (λ count. 0 < length bytes → 0 < count)
@@ -52,6 +64,18 @@ pub record Writes (bytes : List ℕ) (result : Result ℕ IoRefusal) (before aft
   pub refused : OnErr result (after.told ≡ before.told)
   pub writes : after.write_faults ≡ faults_after result before.write_faults
   pub reads : after.read_faults ≡ before.read_faults
+  pub held : after.held ≤ before.held + count_taken result
+  pub late : after.late_reads ≡ before.late_reads
+
+-- a flush: what is held back is handed on, all of it or at a refusal not all; no byte is taken or given
+pub record Flushes {T : Type 0} (result : Result T IoRefusal) (before after : Stream) : Type 0 where
+  pub told : after.told ≡ before.told
+  pub whole : OnOk result (after.held ≡ 0)
+  pub some_left : OnErr result (0 < after.held)
+  pub part : after.held ≤ before.held
+  pub writes : after.write_faults ≡ faults_after result before.write_faults
+  pub reads : after.read_faults ≡ before.read_faults
+  pub late : after.late_reads ≡ before.late_reads
 
 -- how many bytes were written before the refusal
 abbrev pub written_before : WriteRefusal → ℕ
@@ -77,3 +101,4 @@ pub record WritesAll {T : Type 0} (bytes : List ℕ) (result : Result T WriteRef
   pub not_whole : IfErr result (λ why. written_before why < length bytes)
   pub writes : after.write_faults ≡ write_faults_after result before.write_faults
   pub reads : after.read_faults ≡ before.read_faults
+  pub late : after.late_reads ≡ before.late_reads

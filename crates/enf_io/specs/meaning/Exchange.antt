@@ -39,8 +39,11 @@ OfCalls P before after = ⊤
 abbrev pub AtEachMark : (List ℕ → List ℕ → Type 0) → Exchange → Type 0
 AtEachMark P x = All (λ mark. P (take mark.0 x.input) (take mark.1 x.given)) x.marks
 
--- what a device tells of its bytes, if it does, and its counts of faults
+-- what a device tells of its bytes, if it does, its counts of faults, how many of the bytes given it holds back still,
+-- and at how many reads it held some
 pub record Stream : Type 0 where
   pub told : Option Exchange
   pub read_faults : ℕ
   pub write_faults : ℕ
+  pub held : ℕ
+  pub late_reads : ℕ

@@ -1,6 +1,6 @@
 -- What one record does to a drill, and how a drill ends.
 use Rattle.enf_data.specs.declared.terms.VarId.{VarId}
-use Rattle.std.specs.Prelude.{count_by, map, ◌+◌, List, ℕ, ◌≤◌, ◌≡◌, false, [], ◌*◌, ◌^◌, length, Option}
+use Rattle.std.specs.Prelude.{count_by, map, ◌+◌, List, ℕ, ◌≤◌, ◌≡◌, false, [], ◌*◌, ◌^◌, length, Option, ◌⊎◌}
 use Rattle.enf_io.specs.meaning.Exchange.{Exchange}
 use Rattle.enf_formula.specs.meaning.Satisfaction.{Formula}
 use Rattle.trace_meaning.specs.meaning.Traces.{Record}
@@ -23,7 +23,7 @@ use Rattle.enf_run.specs.declared.endings.Cut.{Cut}
 use Rattle.enf_run.specs.machine.LogRunEnds.{HasPlans}
 use Rattle.enf_run.specs.meaning.Headline.{all_formulas}
 use Rattle.enf_run.specs.meaning.Reports.{DrillFinds, is_cause, is_suppression, tally_of, SaysDrillLine}
-use Rattle.enf_run.specs.meaning.Reports.{SaysDrillPartOrNothing, AddsPart}
+use Rattle.enf_run.specs.meaning.Reports.{AddsPart}
 use Rattle.enf_run.specs.declared.endings.Cut.TheVariants as cuts
 
 -- how many of the actions cause an event, and how many suppress one
@@ -89,4 +89,5 @@ pub record FinishesDrill (before : Drill) (found : Drilled) : Type 0 where
 -- what was given where a drill was cut
 abbrev pub CutsDrill : (start steps : ℕ) → Option Exchange → Option Exchange → Cut → Type 0
 CutsDrill start steps before after cuts.WriteFault = SaysDrillLine AddsPart start steps before after
-CutsDrill start steps before after cuts.NoMemory = SaysDrillPartOrNothing start steps before after
+CutsDrill start steps before after cuts.NoMemory =
+    SaysDrillLine AddsPart start steps before after ⊎ (after ≡ before)

@@ -1,5 +1,6 @@
 -- What one turn of the run of a log does, and what the drain at its end gives.
 use Rattle.std.specs.Prelude.{ℕ, List, ◌≡◌, ◌^◌, ◌<◌, ◌≤◌, false, Option, None, Some, ◌⊎◌, ◌+◌, Bool, true}
+use Rattle.enf_io.specs.meaning.Files.{one_more}
 use Rattle.signature.specs.declared.entries.NameEntry.{NameEntry}
 use Rattle.trace_meaning.specs.declared.kinds.StepKind.TheVariants.{Inserted}
 use Rattle.trace_meaning.specs.meaning.Traces.{most_time, Record, time_of}
@@ -149,10 +150,18 @@ pub record LosesTurn (log : Enforcement) (before after : Seen) : Type 0 where
   pub reads : after.gate.read_faults ≡ before.gate.read_faults
   pub nothing : WritesNothing before after
 
+-- what the gate held back was not handed on, since that failed, and nothing else was done
+pub record HoldsTurn (before after : Seen) : Type 0 where
+  pub told : after.gate.told ≡ before.gate.told
+  pub held : 0 < after.gate.held
+  pub writes : after.gate.write_faults ≡ one_more before.gate.write_faults
+  pub reads : after.gate.read_faults ≡ before.gate.read_faults
+  pub report : after.report ≡ before.report
+
 -- the turn was cut: the lines for the record at the front were not all given, or nothing was done
 abbrev pub CutsTurn : List NameEntry → List Rule → Enforcement → Seen → Seen → Cut → Type 0
-CutsTurn entries rules log before after cuts.WriteFault =
-    CutsTaken entries rules log.intake.reader.rest cuts.WriteFault (log_moment log.enforcer before) after
+CutsTurn entries rules log before after cuts.WriteFault = HoldsTurn before after
+    ⊎ CutsTaken entries rules log.intake.reader.rest cuts.WriteFault (log_moment log.enforcer before) after
 CutsTurn entries rules log before after cuts.NoMemory =
     LosesTurn log before after
     ⊎ CutsTaken entries rules log.intake.reader.rest cuts.NoMemory (log_moment log.enforcer before) after

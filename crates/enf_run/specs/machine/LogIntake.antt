@@ -7,6 +7,7 @@ use Rattle.signature.specs.declared.entries.NameEntry.{NameEntry}
 use Rattle.log_stream.specs.declared.items.LogMode.{LogMode}
 use Rattle.log_stream.specs.machine.LogReaders.{Reader, fed}
 use Rattle.log_stream.specs.meaning.LogGrammar.{IsTruncated, behind_blanks, RefusesFront, IsPending}
+use Rattle.enf_run.specs.declared.endings.Cut.{Cut}
 use Rattle.enf_run.specs.declared.intake.Intake.{Intake}
 use Rattle.enf_run.specs.declared.intake.Piece.{Piece}
 use Rattle.enf_run.specs.declared.intake.Verdict.{Verdict}
@@ -14,6 +15,7 @@ use Rattle.enf_run.specs.declared.refusals.RecordRefusal.{RecordRefusal}
 use Rattle.enf_run.specs.meaning.Headline.{most_log_bytes}
 use Rattle.enf_run.specs.meaning.Readings.{AtEachNext, most_read_bytes, IsFallingRecord}
 use Rattle.log_stream.specs.declared.items.LogRefusal.TheVariants as refusals
+use Rattle.enf_run.specs.declared.endings.Cut.TheVariants as cuts
 use Rattle.enf_run.specs.declared.intake.Piece.TheVariants as pieces
 use Rattle.enf_run.specs.declared.intake.Verdict.TheVariants as verdicts
 use Rattle.enf_run.specs.declared.refusals.RecordRefusal.TheVariants as records
@@ -73,6 +75,13 @@ abbrev pub LosesPiece : ℕ → Stream → Stream → Type 0
 LosesPiece left before after =
     ((after.told ≡ before.told) ⊎ ((bytes : List ℕ) × TakesBytes left bytes before.told after.told))
     × (after.read_faults ≡ before.read_faults)
+
+-- what the gate held back was not handed on, since that failed; or memory ran out, then or at a read, or after one
+abbrev pub CutsPiece : ℕ → Stream → Stream → Cut → Type 0
+CutsPiece left before after cuts.WriteFault = (after.told ≡ before.told) × (0 < after.held)
+    × (after.write_faults ≡ one_more before.write_faults) × (after.read_faults ≡ before.read_faults)
+CutsPiece left before after cuts.NoMemory =
+    LosesPiece left before after × (after.write_faults ≡ before.write_faults)
 
 -- what the end of the log makes of a rest that has no whole record
 abbrev pub JudgesLogEnd : List ℕ → Verdict → Type 0

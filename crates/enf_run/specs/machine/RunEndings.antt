@@ -1,5 +1,5 @@
 -- Why the parts of a run end before they are done, with the status and what the report has then.
-use Rattle.std.specs.Prelude.{ℕ, Result, Ok, Err, List, Option, ◌≡◌, ◌⊎◌}
+use Rattle.std.specs.Prelude.{ℕ, Result, Ok, Err, List, Option, ◌≡◌, ◌⊎◌, ◌<◌, OnErr, OnOk}
 use Rattle.enf_io.specs.declared.devices.IoRefusal.{IoRefusal}
 use Rattle.enf_io.specs.declared.writing.WriteRefusal.{WriteRefusal}
 use Rattle.enf_io.specs.meaning.Exchange.{Exchange, Stream}
@@ -15,7 +15,7 @@ use Rattle.enf_run.specs.declared.refusals.Refusal.TheVariants.{ReadFault}
 use Rattle.enf_run.specs.declared.refusals.SignatureRefusal.{SignatureRefusal}
 use Rattle.enf_run.specs.declared.refusals.StateRefusal.{StateRefusal}
 use Rattle.enf_run.specs.declared.refusals.Status.{Status}
-use Rattle.enf_run.specs.meaning.Reports.{none_more, refusal_status, text_of_refusal, AddsPart, AddsPartOrNothing}
+use Rattle.enf_run.specs.meaning.Reports.{none_more, refusal_status, text_of_refusal, AddsPart}
 use Rattle.enf_run.specs.meaning.Reports.{IsReported, IsReportedInPart, SaysNoMemory}
 use Rattle.enf_io.specs.declared.writing.WriteRefusal.TheVariants as writes
 use Rattle.enf_io.specs.declared.devices.IoRefusal.TheVariants as io
@@ -69,7 +69,7 @@ write_faults_behind (Err cut) count = faults_behind cut count
 -- what was given of a text whose writing was cut
 abbrev pub CutsText : List ℕ → Option Exchange → Option Exchange → Cut → Type 0
 CutsText text before after cuts.WriteFault = AddsPart text before after
-CutsText text before after cuts.NoMemory = AddsPartOrNothing text before after
+CutsText text before after cuts.NoMemory = AddsPart text before after ⊎ (after ≡ before)
 
 -- the number that the program ends with
 abbrev pub status_code : Status → ℕ
@@ -92,6 +92,25 @@ pub record WritesText {T : Type 0} (text : List ℕ) (result : Result T Cut) (be
   pub adds : AddsText text result before.told after.told
   pub writes : after.write_faults ≡ write_faults_behind result before.write_faults
   pub reads : after.read_faults ≡ before.read_faults
+  pub late : after.late_reads ≡ before.late_reads
+
+-- what the gate held back was handed on, all of it or, where that was cut, not all; nothing was taken or given
+pub record HandsOver {T : Type 0} (result : Result T Cut) (before after : Stream) : Type 0 where
+  pub told : after.told ≡ before.told
+  pub whole : OnOk result (after.held ≡ 0)
+  pub some_left : OnErr result (0 < after.held)
+  pub writes : after.write_faults ≡ write_faults_behind result before.write_faults
+  pub reads : after.read_faults ≡ before.read_faults
+  pub late : after.late_reads ≡ before.late_reads
+
+-- as `IsHandedOn`, of how the work of a run ends
+pub record IsHandedOver {T : Type 0} (before after : Stream) (result : Result T Ending) : Type 0 where
+  pub at_each_read : after.late_reads ≡ before.late_reads
+  pub at_the_end : (after.held ≡ 0) ⊎ ((result ≡ Err (endings.Cut cuts.WriteFault))
+      ⊎ (result ≡ Err (endings.Cut cuts.NoMemory)))
+
+abbrev pub HandsOnWork : {T : Type 0} → (before after : Stream) → Result T Ending → Type 0
+HandsOnWork before after result = before.held ≡ 0 → IsHandedOver before after result
 
 -- the line is on the report with its status, or a part of it where memory ran out
 abbrev pub ReportsRefusal : Refusal → Stream → Stream → Status → Type 0

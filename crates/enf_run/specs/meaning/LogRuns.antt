@@ -1,6 +1,6 @@
 -- What a run of the log takes from the gate, gives to it and says on the report, by how it ends.
 use Rattle.std.specs.List.{flat_map}
-use Rattle.std.specs.Prelude.{◌≡◌, ℕ, List, ◌-◌, ◌++◌, length, take, map, ◌≢◌, [], ◌∷◌, ◌⊎◌}
+use Rattle.std.specs.Prelude.{◌≡◌, ℕ, List, ◌-◌, ◌++◌, length, take, map, ◌≢◌, [], ◌∷◌, ◌⊎◌, ◌<◌}
 use Rattle.enf_io.specs.meaning.Exchange.{Stream}
 use Rattle.enf_io.specs.meaning.ExchangeGrowth.{Gave}
 use Rattle.enf_io.specs.meaning.Files.{one_more}
@@ -116,26 +116,29 @@ pub record FailsAtGate (s : LogSetting) (before after : Seen) : Type 0 where
   pub actions : SaysActions s.entries s.rules short.whole before.report after.report
 
 -- a write to the report failed, within the lines of the actions of the last step whose line is whole on the gate,
--- after which nothing was given; something of these lines is missing
+-- after which nothing was given, and which holds nothing back; something of these lines is missing
 pub record FailsAtReport (s : LogSetting) (before after : Seen) : Type 0 where
   pub short : RunsShort s before.gate after.gate
   pub none : short.cut ≡ []
+  pub handed : after.gate.held ≡ 0
   pub begun : IsReadBegun before.gate.told after.gate.told
   pub writes : after.gate.write_faults ≡ before.gate.write_faults
   pub actions : SaysActionsInPart s.entries s.rules short.whole one_more before.report after.report
   pub some : actions.missing ≢ []
 
--- memory ran out: of the lines of the actions of the last step whose line is whole on the gate, some may be missing on
--- the report, or one may be cut
-pub record LacksMemory (s : LogSetting) (before after : Seen) : Type 0 where
+-- the run stopped, with this count of write faults of the gate: of the lines of the actions of the last step whose line
+-- is whole on the gate, some may be missing on the report, or one may be cut
+pub record StopsShort (faults : ℕ → ℕ) (s : LogSetting) (before after : Seen) : Type 0 where
   pub short : RunsShort s before.gate after.gate
-  pub writes : after.gate.write_faults ≡ before.gate.write_faults
+  pub writes : after.gate.write_faults ≡ faults before.gate.write_faults
   pub actions : SaysActionsInPart s.entries s.rules short.whole none_more before.report after.report
 
--- the run of the log was cut: by a write that failed, or by running out of memory
+-- the run of the log was cut: by a write that failed, by a flush that did and left some held back, or by running out of
+-- memory
 abbrev pub CutsRun : LogSetting → Seen → Seen → Cut → Type 0
-CutsRun s before after cuts.WriteFault = FailsAtGate s before after ⊎ FailsAtReport s before after
-CutsRun s before after cuts.NoMemory = LacksMemory s before after
+CutsRun s before after cuts.WriteFault = FailsAtGate s before after
+    ⊎ (FailsAtReport s before after ⊎ (StopsShort one_more s before after × (0 < after.gate.held)))
+CutsRun s before after cuts.NoMemory = StopsShort none_more s before after
 
 -- ---- A log that was taken, whatever the enforcer stands for.
 

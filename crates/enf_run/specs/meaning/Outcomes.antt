@@ -1,7 +1,7 @@
 -- What holds of a run at each status, and where each status must come, by the form of its words.
 use Rattle.std.specs.List.{flat_map, range_with_len}
 use Rattle.std.specs.Prelude.{◌≡◌, ℕ, List, Option, ◌++◌, codes, Bool, true, false, decimal, [], length, slice_get, ◌+◌}
-use Rattle.std.specs.Prelude.{Ok, Err, ◌≢◌, ◌⊎◌}
+use Rattle.std.specs.Prelude.{Ok, Err, ◌≢◌, ◌⊎◌, ◌<◌}
 use Rattle.enf_io.specs.declared.devices.IoRefusal.TheVariants.{Failed}
 use Rattle.enf_io.specs.meaning.Exchange.{Stream, Exchange}
 use Rattle.enf_io.specs.meaning.ExchangeGrowth.{Gave}
@@ -33,7 +33,7 @@ use Rattle.enf_run.specs.meaning.EnforceOutcomes.{MissesState, RefusesRecord, Re
 use Rattle.enf_run.specs.meaning.EnforceOutcomes.{RunsOutSaving, WritesRun}
 use Rattle.enf_run.specs.meaning.Headline.{all_formulas, records_of}
 use Rattle.enf_run.specs.meaning.Readings.{LogReading, ReadsLog, ReadsLogToEnd}
-use Rattle.enf_run.specs.meaning.Reports.{IsPart, SaysDrillLine, SaysDrillPartOrNothing, AddsPart, AddsPartOrNothing}
+use Rattle.enf_run.specs.meaning.Reports.{IsPart, SaysDrillLine, SaysDrillOrNothing, AddsOrHolds, AddsOrNothing}
 use Rattle.enf_run.specs.meaning.Reports.{none_more, LacksMemoryInRun, RefusesRun}
 use Rattle.enf_run.specs.meaning.Sources.{AreBytesUnder, AsksPolicy, IsWholeLog, TellBytes, MissesFile}
 use Rattle.enf_run.specs.meaning.Sources.{RefusesPolicyFile, RefusesSignatureFile, RunsOutBefore, AsksRefusedFile}
@@ -172,11 +172,12 @@ pub record SaysVerdict {Gate : Type 0} (call : Call Gate) (report : Stream) (fou
   pub line : finds.audit.whole.log.given ≡ verdict_line finds.audit.policy found
   pub writes : call.after.gate.write_faults ≡ call.before.gate.write_faults
 
--- a front of the line of the verdict was given, which is not the whole, and the count of write faults is this one
+-- a front of the line of the verdict was given, not the whole, or some is held back; the count of write faults is this
 pub record SaysVerdictInPart {Gate : Type 0} (faults : ℕ → ℕ) (call : Call Gate) (report : Stream) : Type 0 where
   pub found : Found
   pub finds : FindsVerdict call report found
   pub part : IsPart finds.audit.whole.log.given (verdict_line finds.audit.policy found)
+      ⊎ ((finds.audit.whole.log.given ≡ verdict_line finds.audit.policy found) × (0 < call.after.gate.held))
   pub writes : call.after.gate.write_faults ≡ faults call.before.gate.write_faults
 
 -- memory ran out within the log, and nothing was given
@@ -229,11 +230,13 @@ RefusedOf form call report other = ⊥
 abbrev pub LacksOf : {Gate : Type 0} → Form → Call Gate → Stream → Type 0
 LacksOf Enforce call report = RunsOutBefore NamesEnforce call report
     ⊎ (CutsLog call report cuts.NoMemory ⊎ RunsOutSaving call report)
-LacksOf Check call report = RunsOutBefore IsCheckForm call report ⊎ GivesCheckText AddsPart none_more call report
+LacksOf Check call report = RunsOutBefore IsCheckForm call report
+    ⊎ GivesCheckText (AddsOrHolds call.after.gate.held) none_more call report
 LacksOf Audit call report = RunsOutBefore IsAuditForm call report
     ⊎ (RunsOutAuditing call report ⊎ SaysVerdictInPart none_more call report)
-LacksOf Generate call report = GivesFor IsGenerateForm (GivesLog AddsPartOrNothing) none_more call report
-LacksOf Drill call report = GivesFor IsDrillForm SaysDrillPartOrNothing none_more call report
+LacksOf Generate call report =
+    GivesFor IsGenerateForm (GivesLog (AddsOrNothing call.after.gate.held)) none_more call report
+LacksOf Drill call report = GivesFor IsDrillForm (SaysDrillOrNothing call.after.gate.held) none_more call report
 LacksOf NoForm call report = ⊥
 
 -- what holds of a run at each status, by the form of its words: the work is done, or a write failed within it; or it
@@ -243,16 +246,18 @@ OutcomeOf Enforce call statuses.Done = DrainsRun call call.after.report ⊎ Writ
 OutcomeOf Enforce call statuses.WriteFault =
     CutsLog call call.after.report cuts.WriteFault ⊎ WritesRun call call.after.report (Err Failed)
 OutcomeOf Check call statuses.Done = GivesCheckText Gave none_more call call.after.report
-OutcomeOf Check call statuses.WriteFault = GivesCheckText AddsPart one_more call call.after.report
+OutcomeOf Check call statuses.WriteFault =
+    GivesCheckText (AddsOrHolds call.after.gate.held) one_more call call.after.report
 OutcomeOf Audit call statuses.Done = SaysVerdict call call.after.report Holds
 OutcomeOf Audit call statuses.Violated =
     (rule : ℕ) × (position : ℕ) × SaysVerdict call call.after.report (Fails rule position)
 OutcomeOf Audit call statuses.WriteFault = SaysVerdictInPart one_more call call.after.report
 OutcomeOf Generate call statuses.Done = GivesFor IsGenerateForm (GivesLog Gave) none_more call call.after.report
 OutcomeOf Generate call statuses.WriteFault =
-    GivesFor IsGenerateForm (GivesLog AddsPart) one_more call call.after.report
+    GivesFor IsGenerateForm (GivesLog (AddsOrHolds call.after.gate.held)) one_more call call.after.report
 OutcomeOf Drill call statuses.Done = GivesFor IsDrillForm (SaysDrillLine Gave) none_more call call.after.report
-OutcomeOf Drill call statuses.WriteFault = GivesFor IsDrillForm (SaysDrillLine AddsPart) one_more call call.after.report
+OutcomeOf Drill call statuses.WriteFault =
+    GivesFor IsDrillForm (SaysDrillLine (AddsOrHolds call.after.gate.held)) one_more call call.after.report
 OutcomeOf form call statuses.NoMemory = LacksMemoryInRun call (LacksOf form call) (RefusedOf form call)
 OutcomeOf form call status = RefusesRun call (RefusedOf form call) status
 

@@ -1,7 +1,7 @@
 -- What a run says: why it is refused, what its end leaves on the report, and what a drill finds.
 use Rattle.enf_data.specs.declared.terms.VarId.{VarId}
 use Rattle.std.specs.Prelude.{ℕ, List, ◌++◌, codes, decimal, ◌≡◌, ◌≢◌, [], Option, ◌⊎◌, Bool, true, false, count_by}
-use Rattle.std.specs.Prelude.{sum_by, map, length}
+use Rattle.std.specs.Prelude.{sum_by, map, length, ◌<◌}
 use Rattle.enf_io.specs.meaning.Exchange.{Exchange, Stream}
 use Rattle.enf_io.specs.meaning.ExchangeGrowth.{Gave}
 use Rattle.enf_io.specs.meaning.Files.{one_more}
@@ -134,9 +134,13 @@ pub record AddsPart (text : List ℕ) (before after : Option Exchange) : Type 0 
   pub part : IsPart front text
   pub gave : Gave front before after
 
--- a front of the text was given, and not the whole of it; or nothing was given
-abbrev pub AddsPartOrNothing : List ℕ → Option Exchange → Option Exchange → Type 0
-AddsPartOrNothing text before after = AddsPart text before after ⊎ (after ≡ before)
+-- a part of the text was given; or the whole of it, and so many bytes, not none, are held back
+abbrev pub AddsOrHolds : (held : ℕ) → List ℕ → Option Exchange → Option Exchange → Type 0
+AddsOrHolds held text before after = AddsPart text before after ⊎ (Gave text before after × (0 < held))
+
+-- so it is, or nothing was given
+abbrev pub AddsOrNothing : (held : ℕ) → List ℕ → Option Exchange → Option Exchange → Type 0
+AddsOrNothing held text before after = AddsOrHolds held text before after ⊎ (after ≡ before)
 
 -- the line is whole at the end of the report, or the count of write faults is one more and a part of the line is there
 abbrev pub IsReported : List ℕ → Stream → Stream → Type 0
@@ -236,6 +240,7 @@ pub record SaysDrillLine (IsGiven : List ℕ → Option Exchange → Option Exch
   pub finds : DrillFinds sample_entries (all_formulas sample_rules) (generated_records start steps) found
   pub given : IsGiven (drill_line found) before after
 
--- a front of the line was given, and not the whole; or nothing
-abbrev pub SaysDrillPartOrNothing : (start steps : ℕ) → Option Exchange → Option Exchange → Type 0
-SaysDrillPartOrNothing start steps before after = SaysDrillLine AddsPart start steps before after ⊎ (after ≡ before)
+-- the line was not given whole, or is held back in part; or nothing was given
+abbrev pub SaysDrillOrNothing : (held start steps : ℕ) → Option Exchange → Option Exchange → Type 0
+SaysDrillOrNothing held start steps before after =
+    SaysDrillLine (AddsOrHolds held) start steps before after ⊎ (after ≡ before)

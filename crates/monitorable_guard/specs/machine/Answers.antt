@@ -1,5 +1,6 @@
 -- What the parts of an evaluation ask and give: rows of the valuations that answer a formula.
 use Rattle.enf_data.specs.declared.events.Event.{Event}
+use Rattle.enf_data.specs.declared.events.NameId.{NameId}
 use Rattle.enf_data.specs.declared.terms.Term.{Term}
 use Rattle.enf_data.specs.declared.terms.Term.TheVariants.{Var, Const}
 use Rattle.enf_data.specs.declared.terms.VarId.{VarId}
@@ -75,6 +76,11 @@ abbrev pub IsMatchAmong : List Event → List Term → Valuation → List VarId 
 IsMatchAmong events terms v columns w = (event : Event) × Contains events event
     × IsMatchOf terms event.args v columns w
 
+-- and these are of the name
+abbrev pub IsMatchOfName : List Event → NameId → List Term → Valuation → List VarId → Valuation → Type 0
+IsMatchOfName events name terms v columns w = (event : Event) × Contains events event × ((event.name ≡ name)
+    × IsMatchOf terms event.args v columns w)
+
 -- w has on the columns the values of one that goes on from v and under which the term has this value
 abbrev pub IsValued : Term → Value → Valuation → List VarId → Valuation → Type 0
 IsValued term value v columns w = (u : Valuation) × Extends v u × (value_of_term u term ≡ Some value)
@@ -102,6 +108,11 @@ pub record AreOpenUnder (v : Valuation) (f : Formula) (columns : List VarId) : T
 -- the table has just the rows of the answers
 abbrev pub HasAnswers : List Event → List Relation → Valuation → Formula → Relation → Type 0
 HasAnswers events tables v f t = (w : Valuation) → HasValuation t w ↔ IsGuardAnswer events tables v f t.columns w
+
+-- the table has just the rows of the answers that are in another table
+abbrev pub HasAnswersIn : Relation → List Event → List Relation → Valuation → Formula → Relation → Type 0
+HasAnswersIn within events tables v f t = (w : Valuation) → HasValuation t w
+    ↔ (IsGuardAnswer events tables v f t.columns w × HasValuation within w)
 
 -- a constant, or a variable that is bound
 abbrev pub IsBoundIn : (VarId → Type 0) → Term → Type 0

@@ -42,12 +42,22 @@ pub record AreOpen (f : Formula) (bound columns : List VarId) : Type 0 where
   pub rising : IsStrictlySortedBy variable_cmp columns
   pub exact : (x : VarId) → Contains columns x ↔ (IsFree x f × (Contains bound x → ⊥))
 
+-- the variable is free, and not bound
+abbrev pub IsOpenIn : Formula → (bound : List VarId) → VarId → Type 0
+IsOpenIn f bound x = IsFree x f × (Contains bound x → ⊥)
+
 -- of the valuations that have v's values of the bound variables and bind the others, just those are in the table under
 -- which the formula holds
 abbrev pub AreHoldingRows : List Event → List Relation → Formula → List VarId → Valuation → Relation
     → Type 0
 AreHoldingRows events tables f bound v t = (w : Valuation) → AgreeOnColumns bound v w → BindsColumns w t.columns
     → HasValuation t w ↔ HoldsNow events tables w f
+
+-- and of these those alone that are in another table
+abbrev pub AreHoldingRowsIn : Relation → List Event → List Relation → Formula → List VarId → Valuation → Relation
+    → Type 0
+AreHoldingRowsIn within events tables f bound v t = (w : Valuation) → AgreeOnColumns bound v w
+    → BindsColumns w t.columns → HasValuation t w ↔ (HoldsNow events tables w f × HasValuation within w)
 
 -- a value of a row of one of the tables
 abbrev pub IsTabled : List Relation → Value → Type 0

@@ -1,11 +1,12 @@
 -- Names that a plan does not read, and traces that differ in such a name alone.
-use Rattle.enf_data.specs.declared.events.Event.{Event}
 use Rattle.enf_data.specs.declared.events.NameId.{NameId}
 use Rattle.enf_data.specs.declared.steps.Step.{Step}
 use Rattle.enf_data.specs.meaning.Data.{step_at}
 use Rattle.std.specs.List.{AllByRecursion}
-use Rattle.std.specs.Prelude.{List, Contains, ◌≡◌, ◌↔◌, ℕ, length, [], ◌⊎◌, ◌∷◌}
+use Rattle.std.specs.Prelude.{List, Contains, ◌≡◌, [], ◌⊎◌, ◌∷◌}
 use Rattle.enf_formula.specs.machine.Agreement.{names_in_formula}
+use Rattle.enf_formula.specs.machine.Polarity.{HaveMoreOf}
+use Rattle.enf_formula.specs.meaning.Satisfaction.{Formula}
 use Rattle.plan_terms.specs.machine.GuardProperties.{OfGuard}
 use Rattle.plan_terms.specs.meaning.Plans.{nodes, Plan, CausePlan, SuppressPlan}
 use Rattle.obligations.specs.declared.literals.Literal.{Literal}
@@ -14,24 +15,24 @@ use Rattle.obligations.specs.machine.Leaves.{ChangesEvents}
 use Rattle.obligations.specs.meaning.Obligations.{last_position}
 use Rattle.obligations.specs.declared.literals.LiteralKind.TheVariants as kind
 
--- what one step has the other has too, where something was caused, and the other way round where it was suppressed
-abbrev pub HaveMore : LiteralKind → List Event → List Event → Type 0
-HaveMore kind.Cause events others = (event : Event) → Contains events event → Contains others event
-HaveMore kind.Suppress events others = (event : Event) → Contains others event → Contains events event
-
 -- the traces differ in events of the name alone, of which the other has more, or fewer
-pub record DiffersIn (k : LiteralKind) (name : NameId) (trace other : List Step) : Type 0 where
-  pub long : length trace ≡ length other
-  pub times : (i : ℕ) → (step_at trace i).time ≡ (step_at other i).time
-  pub others : (i : ℕ) (event : Event) → (event.name ≡ name → ⊥)
-      → Contains (step_at trace i).events event ↔ Contains (step_at other i).events event
-  pub more : (i : ℕ) → HaveMore k (step_at trace i).events (step_at other i).events
+abbrev pub DiffersIn : LiteralKind → NameId → (trace other : List Step) → Type 0
+DiffersIn kind.Cause name trace other = HaveMoreOf name trace other
+DiffersIn kind.Suppress name trace other = HaveMoreOf name other trace
+
+-- the formula does not look for the name
+abbrev pub Ignores : NameId → Formula → Type 0
+Ignores name f = Contains (names_in_formula f) name → ⊥
+
+-- the guard or test of a node does not look for the name
+abbrev pub IgnoresAt : NameId → Plan → Type 0
+IgnoresAt name node = OfGuard (λ guard. Ignores name guard.0) node []
 
 -- the guard or test of a node does not look for the name, and a leaf does not want the contrary of an action on it
 abbrev pub IsUnread : LiteralKind → NameId → Plan → Type 0
 IsUnread k name (CausePlan node place other terms) = k ≡ kind.Suppress → other ≡ name → ⊥
 IsUnread k name (SuppressPlan node place other terms) = k ≡ kind.Cause → other ≡ name → ⊥
-IsUnread k name plan = OfGuard (λ guard. Contains (names_in_formula guard.0) name → ⊥) plan []
+IsUnread k name plan = IgnoresAt name plan
 
 -- no guard or test of a plan looks for the name, and none of its leaves wants the contrary of an action on it
 abbrev pub IsUnreadIn : LiteralKind → NameId → Plan → Type 0

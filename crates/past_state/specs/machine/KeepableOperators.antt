@@ -5,7 +5,7 @@ use Rattle.enf_data.specs.meaning.Valuations.{Valuation}
 use Rattle.std.specs.Prelude.{◌⊎◌, [], Contains, ◌≡◌, List, ◌++◌, All, ℕ}
 use Rattle.enf_formula.specs.machine.FormulaViews.{tree_of}
 use Rattle.enf_formula.specs.machine.FormulaShape.{BindsFresh}
-use Rattle.enf_formula.specs.meaning.Satisfaction.{Formula, IsFree, Prev, Once, Historically, Since, AreFreeVariables}
+use Rattle.enf_formula.specs.meaning.Satisfaction.{Formula, IsFree, Prev, Once, Historically, Since}
 use Rattle.enf_formula.specs.meaning.Satisfaction.{Classically, Sat}
 use Rattle.monitorable_guard.specs.machine.Guards.{BoundFormula}
 use Rattle.monitorable_guard.specs.meaning.Safety.{Safe, NoneBound, BoundOrFreeIn, denial}
@@ -27,11 +27,10 @@ CanKeep (Since place interval g h) = IsFreshFormula h × BindsFresh g (λ x. IsF
     → IsFree x h) × Safe h NoneBound × Safe g (BoundOrFreeIn NoneBound h)
 CanKeep f = Unit {0}
 
--- the guard is that of the formula with nothing bound, and has these columns
-pub record IsAlone (f : Formula) (columns : List VarId) (guard : BoundFormula) : Type 0 where
+-- the guard is that of the formula with nothing bound
+pub record IsAlone (f : Formula) (guard : BoundFormula) : Type 0 where
   pub formula_is : tree_of guard.formula ≡ f
   pub bound_is : guard.bound ≡ []
-  pub free : AreFreeVariables f columns
 
 -- what is kept for these operators was put last, in order
 pub record PushesFor (fs : List Formula) (before after : List OperatorState) : Type 0 where

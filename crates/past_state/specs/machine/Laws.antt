@@ -2,7 +2,7 @@
 use Rattle.enf_data.specs.declared.intervals.Interval.{Interval}
 use Rattle.enf_data.specs.declared.steps.Step.{Step}
 use Rattle.enf_data.specs.meaning.Valuations.{Valuation, BindsColumns}
-use Rattle.std.specs.Prelude.{◌≤◌, List, length, map, sum, ℕ, ◌≡◌, ◌↔◌, Some, IsTrue, [], ◌∷◌}
+use Rattle.std.specs.Prelude.{◌≤◌, List, length, map, sum, ℕ, ◌≡◌, ◌↔◌, None, Some, IsTrue, [], ◌∷◌}
 use Rattle.std.specs.Prelude.{◌++◌}
 use Rattle.enf_formula.specs.machine.FormulaShape.{formula_size, is_past}
 use Rattle.enf_formula.specs.meaning.Satisfaction.{Formula, Since, Once, Historically, Prev, Sat, HoldsAnywhere}
@@ -12,6 +12,7 @@ use Rattle.windows.specs.machine.Windows.{Window, WindowKeeps, AnswersBy, IsComm
 use Rattle.monitorable_guard.specs.meaning.Safety.{denial}
 use Rattle.trace_meaning.specs.meaning.Traces.{last_time}
 use Rattle.past_state.specs.declared.survivors.Survivors.{Survivors}
+use Rattle.past_state.specs.machine.Newcomers.{BeginsWith}
 use Rattle.past_state.specs.machine.OperatorMeaning.{WindowStands, SlotStands}
 use Rattle.past_state.specs.machine.Survivors.{ValuationSurvives}
 use Rattle.past_state.specs.meaning.KeptRows.{all_operators}
@@ -88,6 +89,25 @@ OnceGoesOn = (trace : List Step) (step : Step) (interval : Interval) (g : Formul
     (survivors : Survivors) (right : Relation) → IsTrue (is_past g) → last_time trace ≤ step.time
     → OnceStands trace interval g window
     → AreTablesOf trace window everywhere (satisfied (trace ++ step ∷ []) g) survivors right
+    → (after : Window) → IsCommittedBy window step.time (ValuationSurvives survivors) right after
+    → OnceStands (trace ++ step ∷ []) interval g after
+
+-- where the interval has no end, such a window that is told only with what its operand begins answers, and then stands,
+-- all the same
+abbrev pub BegunAnswers : Type 0
+BegunAnswers = (trace : List Step) (step : Step) (place : ℕ) (interval : Interval) (g begun : Formula)
+    (window : Window) (survivors : Survivors) (right : Relation) → IsTrue (is_past g) → last_time trace ≤ step.time
+    → interval.high ≡ None → BeginsWith g begun → OnceStands trace interval g window
+    → AreTablesOf trace window everywhere (satisfied (trace ++ step ∷ []) begun) survivors right
+    → (v : Valuation) → BindsColumns v window.columns
+    → AnswersBy window step.time (ValuationSurvives survivors) right v
+    ↔ Sat (trace ++ step ∷ []) (length trace) v (Once place interval g)
+
+abbrev pub BegunGoesOn : Type 0
+BegunGoesOn = (trace : List Step) (step : Step) (interval : Interval) (g begun : Formula) (window : Window)
+    (survivors : Survivors) (right : Relation) → IsTrue (is_past g) → last_time trace ≤ step.time
+    → interval.high ≡ None → BeginsWith g begun → OnceStands trace interval g window
+    → AreTablesOf trace window everywhere (satisfied (trace ++ step ∷ []) begun) survivors right
     → (after : Window) → IsCommittedBy window step.time (ValuationSurvives survivors) right after
     → OnceStands (trace ++ step ∷ []) interval g after
 

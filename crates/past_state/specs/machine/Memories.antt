@@ -14,6 +14,7 @@ use Rattle.past_state.specs.declared.memories.Memory.{Memory}
 use Rattle.past_state.specs.declared.memories.StepTables.{StepTables}
 use Rattle.past_state.specs.machine.Laws.{with_last, SinceStands, OnceStands}
 use Rattle.past_state.specs.machine.LeftSides.{AsksLeft, CanAskLeft, AreSurvivors}
+use Rattle.past_state.specs.machine.Newcomers.{AsksRight}
 use Rattle.past_state.specs.machine.OperandQueries.{GuardAsks, CanAskRows, AnswersRows}
 use Rattle.past_state.specs.machine.OperatorMeaning.{SlotStands}
 use Rattle.past_state.specs.machine.Survivors.{SurvivorsFit, survives_by, ValuationSurvives}
@@ -26,9 +27,9 @@ IsFor (Prev place interval g) (memories.Prev slot operand) =
     GuardAsks g [] operand × AreFreeVariables g slot.columns × (slot.interval ≡ interval)
     × LastHasColumns slot.columns slot.last
 IsFor (Once place interval g) (memories.Once window right) =
-    GuardAsks g [] right × AreFreeVariables g window.columns × (window.interval ≡ interval)
+    AsksRight interval g right × AreFreeVariables g window.columns × (window.interval ≡ interval)
 IsFor (Historically place interval g) (memories.Once window right) =
-    GuardAsks (denial g) [] right × AreFreeVariables (denial g) window.columns × (window.interval ≡ interval)
+    AsksRight interval (denial g) right × AreFreeVariables (denial g) window.columns × (window.interval ≡ interval)
 IsFor (Since place interval g h) (memories.Since window left left_tables right) =
     GuardAsks h [] right × AreFreeVariables h window.columns × (window.interval ≡ interval)
     × AsksLeft g window.columns left × (left_tables ≡ length (outermost g))

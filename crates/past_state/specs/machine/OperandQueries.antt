@@ -26,6 +26,13 @@ pub record CanAskRows (guard : BoundFormula) (columns : List VarId) (tables : Li
   pub fresh : BindsFresh (tree_of guard.formula) (λ x. Contains guard.bound x ⊎ IsFree x (tree_of guard.formula))
   pub tabled : FitOperators (outermost (tree_of guard.formula)) tables
 
+-- the guard can be asked for all its rows, whose columns are some of these
+pub record CanAskRowsAmong (guard : BoundFormula) (columns : List VarId) (tables : List Relation) : Type 0 where
+  pub bound : guard.bound ≡ []
+  pub free : (x : VarId) → IsFree x (tree_of guard.formula) → Contains columns x
+  pub fresh : BindsFresh (tree_of guard.formula) (λ x. Contains guard.bound x ⊎ IsFree x (tree_of guard.formula))
+  pub tabled : FitOperators (outermost (tree_of guard.formula)) tables
+
 -- the guard can be asked under each row of these columns
 pub record CanAskRowsUnder (guard : BoundFormula) (columns : List VarId) (tables : List Relation) : Type 0 where
   pub bound : guard.bound ≡ columns

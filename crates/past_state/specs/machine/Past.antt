@@ -11,7 +11,8 @@ use Rattle.enf_formula.specs.machine.FormulaViews.{tree_of}
 use Rattle.enf_formula.specs.machine.FormulaShape.{is_past, BindsFresh}
 use Rattle.enf_formula.specs.meaning.Satisfaction.{Formula, IsFree, Sat}
 use Rattle.valuations.specs.machine.Tables.{Relation, HasValuation, AgreeOnColumns}
-use Rattle.monitorable_guard.specs.machine.Evaluation.{FitOperators, AreOpen, AreHoldingRows}
+use Rattle.monitorable_guard.specs.machine.Evaluation.{FitOperators, AreOpen, AreHoldingRows, AreHoldingRowsIn}
+use Rattle.monitorable_guard.specs.machine.Evaluation.{IsOpenIn}
 use Rattle.monitorable_guard.specs.machine.PresentMeaning.{outermost, TablesStandFor, HoldsNow}
 use Rattle.trace_meaning.specs.meaning.Traces.{last_time}
 use Rattle.past_state.specs.declared.guards.PlacedGuard.{PlacedGuard}
@@ -162,6 +163,16 @@ HasOpenColumns tables number t = (g : PlacedGuard) → IsGuard tables.guards num
 abbrev pub AreEvaluated : PastTables → ℕ → List Event → Valuation → Relation → Type 0
 AreEvaluated tables number events v t = (g : PlacedGuard) → IsGuard tables.guards number g
     → AreHoldingRows events (tables_of g tables) (guard_formula g) g.guard.bound v t
+
+-- and of these those alone that are in another table
+abbrev pub AreEvaluatedIn : Relation → PastTables → ℕ → List Event → Valuation → Relation → Type 0
+AreEvaluatedIn within tables number events v t = (g : PlacedGuard) → IsGuard tables.guards number g
+    → AreHoldingRowsIn within events (tables_of g tables) (guard_formula g) g.guard.bound v t
+
+-- the other table has some of the columns of the guard
+abbrev pub HasColumnsOf : Relation → List PlacedGuard → ℕ → Type 0
+HasColumnsOf within guards number = (g : PlacedGuard) → IsGuard guards number g → (x : VarId)
+    → Contains within.columns x → IsOpenIn (guard_formula g) g.guard.bound x
 
 -- for each trace and step for which the tables stand: of the valuations that have v's values of the bound variables and
 -- bind the others, just those are in the table that satisfy the guard at the step

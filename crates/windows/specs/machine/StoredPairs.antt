@@ -4,14 +4,11 @@ use Rattle.enf_data.specs.declared.terms.VarId.{VarId}
 use Rattle.enf_data.specs.declared.values.Value.{Value}
 use Rattle.enf_data.specs.meaning.Membership.{HasNoRepeats}
 use Rattle.enf_data.specs.meaning.Valuations.{valuation_of}
-use Rattle.std.specs.Bool.{nat_eq}
-use Rattle.std.specs.List.{filter}
 use Rattle.std.specs.Prelude.{List, ◌↔◌, ℕ, ◌<◌, Contains, ◌≡◌, length, [], map, Option, None, Some}
 use Rattle.std.specs.Prelude.{All, ◌≤◌}
 use Rattle.windows.specs.declared.kept_pairs.KeptPair.{KeptPair}
 use Rattle.windows.specs.declared.steps.LastStep.{LastStep}
 use Rattle.windows.specs.machine.CommittedSteps.{CommittedStep, IsKeptTime}
-use Rattle.windows.specs.machine.StepQueues.{IsInStep}
 use Rattle.windows.specs.machine.WindowEntries.{HasTime}
 use Rattle.windows.specs.machine.Windows.{Window, StandsForSteps}
 use Rattle.windows.specs.meaning.KeptPairs.{IsRisingBy, IsPairBefore, pair, ChosenBy}
@@ -73,16 +70,3 @@ pub record AreEntriesOf (pairs : List KeptPair) (entries : List (List Value × L
   pub exact : (p : KeptPair) → HasTime entries p.row p.time ↔ Contains pairs p
   pub fit : All (λ e. (0 < length e.1) × IsRisingBy ◌<◌ e.1) entries
   pub unique : HasNoRepeats (map (λ e. e.0) entries)
-
--- the rows of those pairs that have this time
-abbrev pub rows_at : ℕ → List KeptPair → List (List Value)
-rows_at time pairs = map (λ p. p.row) (filter (λ p. nat_eq time p.time) pairs)
-
--- each step has the time of one of the pairs
-abbrev pub HaveTimesOf : List KeptPair → List LastStep → Type 0
-HaveTimesOf pairs steps = (step : LastStep) → Contains steps step → (p : KeptPair) × Contains pairs p
-    × (step.time ≡ p.time)
-
--- each pair has a step with its row, at its time
-abbrev pub HaveStepsOf : List KeptPair → List LastStep → Type 0
-HaveStepsOf pairs steps = (p : KeptPair) → Contains pairs p → IsInStep steps p.row p.time

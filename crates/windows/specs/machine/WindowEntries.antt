@@ -3,7 +3,7 @@ use Rattle.enf_data.specs.declared.intervals.Interval.{Interval}
 use Rattle.enf_data.specs.declared.values.Value.{Value}
 use Rattle.enf_data.specs.meaning.Membership.{HasNoRepeats, IsIn}
 use Rattle.std.specs.Prelude.{ℕ, List, Contains, drop, ◌≡◌, ◌<◌, All, [], length, map, ◌⊎◌, Some, ◌-◌}
-use Rattle.std.specs.Prelude.{◌≤◌, ◌↔◌, slice_get}
+use Rattle.std.specs.Prelude.{◌≤◌, ◌↔◌, ◌+◌, ◌∷◌, slice_get}
 use Rattle.windows.specs.declared.surviving_rows.Surviving.{Surviving}
 use Rattle.windows.specs.declared.surviving_rows.Surviving.TheVariants.{All as Whole, Only, AllBut}
 use Rattle.windows.specs.machine.RowTimes.{RiseTo, AreLeastTimes, IsEndedTime, IsServedTime}
@@ -11,6 +11,15 @@ use Rattle.windows.specs.machine.RowTimes.{RiseTo, AreLeastTimes, IsEndedTime, I
 -- the rows, in their places
 abbrev pub rows_of : List (List Value × List ℕ) → List (List Value)
 rows_of entries = map (λ e. e.0) entries
+
+-- how many there are in all
+abbrev pub count_times : List (List ℕ) → ℕ
+count_times [] = 0
+count_times (times ∷ others) = length times + count_times others
+
+-- how many pairs of a row and one of its times there are
+abbrev pub count_pairs : List (List Value × List ℕ) → ℕ
+count_pairs entries = count_times (map (λ e. e.1) entries)
 
 -- the row stands in the list, and the time is one of its times
 abbrev pub HasTime : List (List Value × List ℕ) → List Value → ℕ → Type 0
@@ -78,11 +87,6 @@ pub record Forgets (interval : Interval) (now : ℕ) (before after : List (List 
   pub behind : (row : List Value) (time : ℕ) → HasBehind after row time → HasBehind before row time
   pub serves : (row : List Value) (time : ℕ) → HasTime before row time
       → IsServedTime interval.high interval.low now (HasTime after row) time ⊎ IsEndedTime interval.high now time
-
--- of the row no time is past the end, and none but the first is far enough
-abbrev pub IsSettledRow : ℕ → ℕ → ℕ → List (List Value × List ℕ) → List Value → Type 0
-IsSettledRow high low now entries row = (time : ℕ)
-    → (HasTime entries row time → now - time ≤ high) × (HasBehind entries row time → now - time < low)
 
 -- where S holds the times stay, and else none does
 abbrev pub IsLetGoUnless : Type 0 → List ℕ → List ℕ → Type 0

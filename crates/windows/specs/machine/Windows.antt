@@ -12,9 +12,9 @@ use Rattle.windows.specs.declared.surviving_rows.Surviving.TheVariants.{All as W
 use Rattle.windows.specs.machine.CommittedSteps.{to_the_end, StepsAnswer, AreUpTo, HasColumns, CommittedStep, HasPair}
 use Rattle.windows.specs.machine.CommittedSteps.{IsKeptTime, with_committed_step}
 use Rattle.windows.specs.machine.RowTimes.{AreLeastTimes, RiseTo, IsEndedTime, IsServedTime, is_some_time}
-use Rattle.windows.specs.machine.StepQueues.{Queue, AreInReach, AreQueued, AreUpToTime}
+use Rattle.windows.specs.machine.DueQueues.{Queue, IsCompact, IsQueueAt}
 use Rattle.windows.specs.machine.RowIndexes.{IsIndexOf, PartIndex}
-use Rattle.windows.specs.machine.WindowEntries.{AreWindowEntries, AreLeast, rows_of}
+use Rattle.windows.specs.machine.WindowEntries.{AreWindowEntries, AreLeast, count_pairs, rows_of}
 
 -- rows, each with times at which it was right; the last time is 0 where no step is committed
 pub record Window : Type 0 where
@@ -32,18 +32,18 @@ abbrev pub kept_entries : List (List Value × List ℕ) → List (List Value × 
 kept_entries entries = filter has_times entries
 
 -- the columns are distinct, the rows are as long as they, and of the times of each just the least are kept, or none;
--- where the interval has an end, the queue has the step of each time that is kept, and no step that is past the end;
--- where there is an index, it has the places of the rows
+-- where the interval has an end, the times are queued; where there is an index, it has the places of the rows; rows and
+-- what is queued are not many against the times, of which there are at least so many
 pub record IsWindow (interval : Interval) (columns : List VarId) (last : ℕ)
     (entries : List (List Value × List ℕ))
-    (queue : Queue) (index : Option PartIndex) : Type 0 where
+    (queue : Queue) (index : Option PartIndex) (pairs : ℕ) : Type 0 where
   pub distinct : HasNoRepeats columns
   pub kept : AreWindowEntries (length columns) last entries
   pub least : AreLeast interval last entries
-  pub up_to : AreUpToTime last queue.steps
-  pub in_reach : AreInReach interval.high last queue.steps
-  pub queued : (high : ℕ) → interval.high ≡ Some high → AreQueued entries queue
+  pub queued : IsQueueAt interval last entries queue
   pub indexed : IfSome index (IsIndexOf columns (rows_of entries))
+  pub compact : IsCompact entries queue
+  pub counted : pairs ≤ count_pairs entries
 
 -- a row with the valuation's values has this time
 abbrev pub HasRow : Window → Valuation → ℕ → Type 0

@@ -91,7 +91,7 @@ returns-then-looks_for-clause-acts c pending inserted given nothing can found =
     let left =
     left_rest plans past c.args.time c.args.position c.args.found c.remove-first.new.self.items c.requires.some c.remove-first.ensures.items rule root pending inserted c.args.events.now c.act.new.events
     c.as_slice-given.ensures.distinct applies
-    (batch_first c.falling_stays_met.ensures.plans c.falling_stays_met.ensures.instances c.falling_stays_met.ensures.rest c.unread_stays_met.ensures.rest
+    (batch_first c.unread_stays_met.ensures.plans c.unread_stays_met.ensures.instances c.unread_stays_met.ensures.rest
     plans pending past inserted c.args.time c.args.position (rule_found c.args.found) name batch can
     given c.args.events.now c.act.new.events action (root_literals c.args.found)
     (subst (λ ls. 0 < length ls) (sym (whole plans past c.args.time c.args.position c.args.found c.remove-first.new.self.items c.requires.some c.remove-first.ensures.items rule root)) c.requires.some)

@@ -66,7 +66,7 @@ loop-literal-preserved c plans pending past inserted given batch can are left =
             (wanted_from plans pending past inserted c.args.time c.args.position given events c.args.rule literal action (are literal there) changes c.in_ok-action.ensures)
             (subst (λ a. Applies a.kind a.event events after) (sym c.in_ok-action.ensures) applies),
       ),
-      batch_rest c.falling_stays_met.ensures.plans c.falling_stays_met.ensures.instances c.falling_stays_met.ensures.rest c.unread_stays_met.ensures.rest
+      batch_rest c.unread_stays_met.ensures.plans c.unread_stays_met.ensures.instances c.unread_stays_met.ensures.rest
           plans pending past inserted c.args.time c.args.position c.args.rule c.args.name batch can given events after literal (drop (k + 1) ls) distinct taken suppress named
           (λ l among. are l (in_drop ls k l (subst (λ m. Contains m l) (sym at) (later l literal (drop (k + 1) ls) among)))) changes left_now,
     )

@@ -9,4 +9,5 @@ loop-written-preserved g c = record {
   given = Gave-more _ _ _ _ _ _ c.loop-written.invariant.given c.in-Ok.ensures.gave;
   writes = c.in-Ok.ensures.writes ∙ c.loop-written.invariant.writes;
   reads = c.in-Ok.ensures.reads ∙ c.loop-written.invariant.reads;
+  late = c.in-Ok.ensures.late ∙ c.loop-written.invariant.late;
 }

@@ -20,6 +20,8 @@ loop-audit-init g c =
       policy = new.auditor.policy_is;
       audited = audited_none c.args.signature.now (g.G.Sink.seen c.args.gate.now) c.in_ok-audit.audit new.intake.reader new.intake.accepted new.clock new.stands;
       writes = refl;
+      held = refl;
+      late = λ none. refl;
     }
 
 pub go_on-requires-clause-reader : goal.go_on-requires-clause-reader
@@ -70,6 +72,8 @@ loop-audit-preserved g c =
       policy = go.policy_is;
       audited = go.audited;
       writes = c.in_ok-verdict.ensures.writes ∙ inv.writes;
+      held = c.in_ok-verdict.ensures.held ∙ inv.held;
+      late = λ none. c.in_ok-verdict.ensures.late (inv.held ∙ none) ∙ inv.late none;
     }
 
 pub loop-audit-smaller : goal.loop-audit-smaller
@@ -118,3 +122,17 @@ returns-in-Some-clause-few g c =
 
 pub returns-in-Some-clause-writes : goal.returns-in-Some-clause-writes
 returns-in-Some-clause-writes g c = c.in_ok-verdict.ensures.writes ∙ c.loop-audit.invariant.writes
+
+pub returns-in_err-verdict-clause-held : goal.returns-in_err-verdict-clause-held
+returns-in_err-verdict-clause-held g c = c.in_err-verdict.ensures.held ∙ c.loop-audit.invariant.held
+
+pub returns-in_err-verdict-clause-late : goal.returns-in_err-verdict-clause-late
+returns-in_err-verdict-clause-late g c none = let inv = c.loop-audit.invariant in
+    c.in_err-verdict.ensures.late (inv.held ∙ none) ∙ inv.late none
+
+pub returns-in-Some-clause-held : goal.returns-in-Some-clause-held
+returns-in-Some-clause-held g c = c.in_ok-verdict.ensures.held ∙ c.loop-audit.invariant.held
+
+pub returns-in-Some-clause-late : goal.returns-in-Some-clause-late
+returns-in-Some-clause-late g c none = let inv = c.loop-audit.invariant in
+    c.in_ok-verdict.ensures.late (inv.held ∙ none) ∙ inv.late none

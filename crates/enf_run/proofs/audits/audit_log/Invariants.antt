@@ -14,6 +14,8 @@ invariant-loop-audit g l =
       policy : l.audit.auditor.policy ≡ l.policy;
       audited : IsAudited l.signature (gate l.fn.gate) bytes l.audit (gate l.gate);
       writes : (gate l.gate).write_faults ≡ (gate l.fn.gate).write_faults;
+      held : (gate l.gate).held ≡ (gate l.fn.gate).held;
+      late : (gate l.fn.gate).held ≡ 0 → (gate l.gate).late_reads ≡ (gate l.fn.gate).late_reads;
     }
 
 abbrev pub decreases-loop-audit : goal.decreases-loop-audit

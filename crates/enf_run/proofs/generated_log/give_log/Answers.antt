@@ -43,6 +43,7 @@ loop-piece-preserved-then-len-ge-PIECE_BYTES g c =
           c.deref.result.now c.deref.ensures.value _ w.whole c.clear.new.self.items c.clear.ensures.items;
       writes = w.writes ∙ h.writes;
       reads = w.reads ∙ h.reads;
+      late = w.late ∙ h.late;
     }
 
 pub loop-piece-preserved : goal.loop-piece-preserved
@@ -60,6 +61,7 @@ loop-piece-preserved g c =
           (c.append_line.ensures.line more);
       writes = h.writes;
       reads = h.reads;
+      late = h.late;
     }
 
 pub returns-in_err-write_all-2-clause-cut : goal.returns-in_err-write_all-2-clause-cut

@@ -12,6 +12,7 @@ invariant-loop-piece g l =
       gathered : IsGathered l.fn.start l.log.made l.piece.items (seen l.fn.sink).told (seen l.sink).told;
       writes : (seen l.sink).write_faults ≡ (seen l.fn.sink).write_faults;
       reads : (seen l.sink).read_faults ≡ (seen l.fn.sink).read_faults;
+      late : (seen l.sink).late_reads ≡ (seen l.fn.sink).late_reads;
     }
 
 abbrev pub decreases-loop-piece : goal.decreases-loop-piece

@@ -11,4 +11,5 @@ returns-in_err-write_all g c =
       adds = pieces_part (λ piece. piece.now) c.args.pieces.now c.loop-piece.piece-index (written_before why) _ _ _ _ c.loop-piece-test.true w.not_whole c.loop-piece.invariant.gave w.part;
       writes = w.writes ∙ cut_counts (Unit {0}) (Unit {0}) why _ ∙ ap (write_faults_behind {T = Unit {0}} (Err (cut_after why))) c.loop-piece.invariant.writes;
       reads = w.reads ∙ c.loop-piece.invariant.reads;
+      late = w.late ∙ c.loop-piece.invariant.late;
     })

@@ -1,18 +1,19 @@
 use Rattle.enf_run.proofs.Vocabulary.{Bool, false, ◌∙◌, ◌≡◌, Err, Ok, inl, inr, is_some, subst, sym, refl, option_map, err_from_is_err_and, Enforcing, policy_rules_of, RanAsJudged, enforcer_setting}
 use Rattle.enf_run.proofs.Vocabulary.{SavesWhereAsked, seen_of, input_log}
 use Rattle.enf_run.proofs.SavedStateLemmas.{accepted_so, same_some, took_accepted}
+use Rattle.enf_run.proofs.HandedOnLemmas.{handed_all, handed_cut}
 use Rattle.enf_run.proofs.run.run_log.Goals as goal
 
 pub save_where_asked-requires : goal.save_where_asked-requires
 save_where_asked-requires g c = record { goes_on = subst (λ (e : Enforcing). e.stopped ≡ false) (sym c.enforcer.ensures) c.in_ok-judged.ensures.goes_on }
 
-pub returns-in_err-judged : goal.returns-in_err-judged
-returns-in_err-judged g c =
+pub returns-in_err-judged-clause-ran : goal.returns-in_err-judged-clause-ran
+returns-in_err-judged-clause-ran g c =
     let p = err_from_is_err_and c.from_residual.result c.from_residual.ensures.1 in
     rw (p.1, p.2) (inl (record { lost = c.in_err-judged.ensures.lost; ran = c.in_err-judged.ensures.cut; same = refl }))
 
-pub returns-in_err-conclude : goal.returns-in_err-conclude
-returns-in_err-conclude g c =
+pub returns-in_err-conclude-clause-ran : goal.returns-in_err-conclude-clause-ran
+returns-in_err-conclude-clause-ran g c =
     let p = err_from_is_err_and c.from_residual-in_err-conclude.result c.from_residual-in_err-conclude.ensures.1 in
     let judged = c.in_ok-judged.judged in
     let enforcer = c.enforce_log.new.log.enforcer in
@@ -29,8 +30,8 @@ returns-in_err-conclude g c =
       same = refl;
     })
 
-pub returns-in_err-save_where_asked : goal.returns-in_err-save_where_asked
-returns-in_err-save_where_asked g c =
+pub returns-in_err-save_where_asked-clause-ran : goal.returns-in_err-save_where_asked-clause-ran
+returns-in_err-save_where_asked-clause-ran g c =
     let p = err_from_is_err_and c.from_residual-in_err-save_where_asked.result c.from_residual-in_err-save_where_asked.ensures.1 in
     let judged = c.in_ok-judged.judged in
     let enforcer = c.enforce_log.new.log.enforcer in
@@ -53,8 +54,8 @@ returns-in_err-save_where_asked g c =
       saves = saves;
     }))
 
-pub returns : goal.returns
-returns g c =
+pub returns-clause-ran : goal.returns-clause-ran
+returns-clause-ran g c =
     let judged = c.in_ok-judged.judged in
     let enforcer = c.enforce_log.new.log.enforcer in
     let entries = c.args.names.now.signature.now in
@@ -73,3 +74,24 @@ returns g c =
           (subst (λ (saves : Bool). RanAsJudged saves (s trace) judged enforcer before after) saves_is (c.in_ok-judged.ensures.ran trace built stands)) c.in_ok-conclude.ensures;
       saves = saves;
     }
+
+pub returns-in_err-judged-clause-handed : goal.returns-in_err-judged-clause-handed
+returns-in_err-judged-clause-handed g c =
+    let p = err_from_is_err_and c.from_residual.result c.from_residual.ensures.1 in
+    rw (p.1, p.2) (handed_cut (g.G.Sink.seen c.args.gate.now) (g.G.Sink.seen c.enforce_log.new.gate) c.in_err-judged.field-0.0
+    (c.in_err-judged.ensures.late))
+
+pub returns-in_err-conclude-clause-handed : goal.returns-in_err-conclude-clause-handed
+returns-in_err-conclude-clause-handed g c =
+    let log = c.in_ok-judged.ensures in
+    handed_all (g.G.Sink.seen c.args.gate.now) (g.G.Sink.seen c.enforce_log.new.gate) _ log.late log.handed
+
+pub returns-in_err-save_where_asked-clause-handed : goal.returns-in_err-save_where_asked-clause-handed
+returns-in_err-save_where_asked-clause-handed g c =
+    let log = c.in_ok-judged.ensures in
+    handed_all (g.G.Sink.seen c.args.gate.now) (g.G.Sink.seen c.enforce_log.new.gate) _ log.late log.handed
+
+pub returns-clause-handed : goal.returns-clause-handed
+returns-clause-handed g c =
+    let log = c.in_ok-judged.ensures in
+    handed_all (g.G.Sink.seen c.args.gate.now) (g.G.Sink.seen c.enforce_log.new.gate) _ log.late log.handed

@@ -98,7 +98,7 @@ begin_behind-begin_under-requires t c =
         λ row there. subst (λ p. CanAskPlan (guards_at c.args.now.now.tables.now) (plan_of p) (filled_from_row (bound_in c.args.v.now) c.in_ok-rows-in-Guarded.rows.columns row))
             (sym c.deref-in-Guarded.ensures)
             (body_can c.args.now.now c.in-Guarded.guard (tree_of c.in-Guarded.test.value) c.requires.asked.scope c.in-Guarded.vars can.0.0 can.0.1 can.0.2 (bound_in c.args.v.now)
-            c.requires.asked.fits c.in_ok-rows-in-Guarded.rows e.table e.columns e.evaluated
+            c.requires.asked.fits c.in_ok-rows-in-Guarded.rows e.table e.columns
             (guards_at c.args.now.now.tables.now) (plan_of c.in-Guarded.body.value) can.1 row there),
         (
           subst (λ p. AllByRecursion EndsInTime (nodes (plan_of p))) (sym c.deref-in-Guarded.ensures) (subst (λ p. AllByRecursion EndsInTime (nodes (plan_of p))) c.in-Guarded.is c.requires.ends).1,

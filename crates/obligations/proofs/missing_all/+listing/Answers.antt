@@ -1,11 +1,11 @@
 use Rattle.obligations.proofs.Vocabulary.{rules, ◌≡◌, ◌<◌, ◌≤◌, List, length, take, inl, inr, sym, subst, arith, take_all, get_or_from_slice_get, on_ok_weaker, there_from_get, Valuation, Value}
-use Rattle.obligations.proofs.Vocabulary.{tree_of, CausePlan, SuppressPlan, Both, Either, TestOr, Guarded, AlwaysPlan, UntilPlan, plan_of, bound_in, filled_from_row, AddsList, AddsOf, TellsNothing}
-use Rattle.obligations.proofs.Vocabulary.{CanAskPlan, CanAskIn, IsWanted, IsWantedUnder, guards_at, Missing, Gathers}
-use Rattle.std.specs.Prelude.{true, false, ◌+◌}
-use Rattle.obligations.proofs.AdditionLemmas.{adds_both, body_can, cause_listed, either_nothing, either_right, gathers_one_more, rows_listed, suppress_listed, test_body, test_nothing, until_left}
-use Rattle.obligations.proofs.AdditionLemmas.{until_nothing}
+use Rattle.obligations.proofs.Vocabulary.{tree_of, CausePlan, SuppressPlan, Both, Either, TestOr, AlwaysPlan, UntilPlan, plan_of, bound_in, filled_from_row, AddsList, AddsOf, TellsNothing, CanAskIn}
+use Rattle.obligations.proofs.Vocabulary.{IsWanted, IsWantedUnder, guards_at, Missing, Gathers}
+use Rattle.std.specs.Prelude.{true, false, ◌+◌, refl}
+use Rattle.obligations.specs.machine.GuardedRows.{IsGuardedBy}
+use Rattle.obligations.proofs.AdditionLemmas.{adds_as, adds_both, cause_listed, either_nothing, either_right, gathers_one_more, suppress_listed, test_body, test_nothing, until_left, until_nothing}
 use Rattle.obligations.proofs.AskablePlanLemmas.{binds_bound, is_test, within}
-use Rattle.obligations.proofs.WantedLiteralLemmas.{adds_found, adds_more, adds_of, cause_wanted, in_body, in_left, in_right, suppress_wanted, wanted_in, wanted_under}
+use Rattle.obligations.proofs.WantedLiteralLemmas.{adds_found, adds_more, adds_of, cause_wanted, in_body, in_left, in_right, suppress_wanted, wanted_in}
 use Rattle.obligations.proofs.missing_all.+listing.Goals.{push_missing-else-low-eq0-via-then-low-eq0+in_ok-misses_nothing-in-Until+else-branch-3, push_missing-else-low-eq0-via-else-low-eq0}
 use Rattle.obligations.proofs.missing_all.+listing.Goals as goal
 
@@ -37,28 +37,6 @@ push_missing-returns-then-branch-2-clause-listed t c =
     subst (λ p. AddsList c.args.now.now (λ trace. Missing trace (plan_of p) (bound_in c.args.v.now)) c.args.out.now.items c.args.out.now.items) (sym c.in-TestOr.is)
     (test_nothing c.args.now.now (bound_in c.args.v.now) c.in-TestOr.guard (tree_of c.in-TestOr.test.value) c.requires.scope can.0.0 c.requires.fits.binds
     c.in-TestOr.node (plan_of c.in-TestOr.body.value) c.args.out.now.items can.0.1 c.in_ok-holds_under-in-TestOr.field-0 c.in_ok-holds_under-in-TestOr.ensures.evaluated c.if-branch-2.true)
-
-pub push_missing-told_under-requires-clause-within : goal.push_missing-told_under-requires-clause-within
-push_missing-told_under-requires-clause-within t c =
-    let can = subst (λ p. CanAskIn (guards_at c.args.now.now.tables.now) (plan_of p) c.requires.scope) c.in-Guarded.is c.requires.can in
-    within c.args.now.now.tables.now c.in-Guarded.guard (tree_of c.in-Guarded.test.value) c.requires.scope can.0.0
-
-pub push_missing-told_under-requires-clause-binds : goal.push_missing-told_under-requires-clause-binds
-push_missing-told_under-requires-clause-binds t c =
-    let can = subst (λ p. CanAskIn (guards_at c.args.now.now.tables.now) (plan_of p) c.requires.scope) c.in-Guarded.is c.requires.can in
-    binds_bound c.args.now.now.tables.now c.in-Guarded.guard (tree_of c.in-Guarded.test.value) c.requires.scope can.0.0 (bound_in c.args.v.now) c.requires.fits.binds
-
-pub push_missing-push_under-requires : goal.push_missing-push_under-requires
-push_missing-push_under-requires t c =
-    let can = subst (λ p. CanAskIn (guards_at c.args.now.now.tables.now) (plan_of p) c.requires.scope) c.in-Guarded.is c.requires.can in
-    let e = c.in_ok-rows-in-Guarded.ensures in (
-      search rules,
-      λ row there. subst (λ p. CanAskPlan (guards_at c.args.now.now.tables.now) (plan_of p) (filled_from_row (bound_in c.args.v.now) c.in_ok-rows-in-Guarded.rows.columns row))
-          (sym c.deref-in-Guarded.ensures)
-          (body_can c.args.now.now c.in-Guarded.guard (tree_of c.in-Guarded.test.value) c.requires.scope c.in-Guarded.vars can.0.0 can.0.1 can.0.2 (bound_in c.args.v.now) c.requires.fits
-          c.in_ok-rows-in-Guarded.rows e.table e.columns e.evaluated
-          (guards_at c.args.now.now.tables.now) (plan_of c.in-Guarded.body.value) can.1 row there),
-    )
 
 pub push_missing-returns-then-branch-3-clause-listed : goal.push_missing-returns-then-branch-3-clause-listed
 push_missing-returns-then-branch-3-clause-listed t c =
@@ -103,19 +81,6 @@ push_missing-returns-else-branch-2-clause-listed t c =
     c.in_ok-holds_under-in-TestOr.ensures.evaluated c.if-branch-2.false
     (subst (λ p. AddsList c.args.now.now (λ trace. Missing trace (plan_of p) (bound_in c.args.v.now)) c.args.out.now.items c.push_missing-in-TestOr.new.out.items) c.deref-in-TestOr.ensures adds)))
     c.push_missing-in-TestOr.ensures.listed
-
-pub push_missing-returns-in_ok-rows-in-Guarded-clause-listed : goal.push_missing-returns-in_ok-rows-in-Guarded-clause-listed
-push_missing-returns-in_ok-rows-in-Guarded-clause-listed t c =
-    let can = subst (λ p. CanAskIn (guards_at c.args.now.now.tables.now) (plan_of p) c.requires.scope) c.in-Guarded.is c.requires.can in
-    let e = c.in_ok-rows-in-Guarded.ensures in
-    on_ok_weaker c.push_under.result (λ adds.
-    subst (λ p. AddsList c.args.now.now (λ trace. Missing trace (plan_of p) (bound_in c.args.v.now)) c.args.out.now.items c.push_under.new.out.items) (sym c.in-Guarded.is)
-    (rows_listed c.args.now.now c.in-Guarded.guard (tree_of c.in-Guarded.test.value) c.requires.scope c.in-Guarded.vars can.0.0 can.0.1 can.0.2 (bound_in c.args.v.now) c.requires.fits
-    c.in_ok-rows-in-Guarded.rows e.table e.columns e.evaluated
-    c.in-Guarded.node (plan_of c.in-Guarded.body.value) c.args.out.now.items c.push_under.new.out.items
-    (subst (λ p. AddsList c.args.now.now (λ trace. Gathers (λ row. Missing trace (plan_of p) (filled_from_row (bound_in c.args.v.now) c.in_ok-rows-in-Guarded.rows.columns row))
-    c.in_ok-rows-in-Guarded.rows.rows) c.args.out.now.items c.push_under.new.out.items) c.deref-in-Guarded.ensures adds)))
-    c.push_under.ensures.listed
 
 pub push_missing-returns-else-low-eq0-clause-listed : goal.push_missing-returns-else-low-eq0-clause-listed
 push_missing-returns-else-low-eq0-clause-listed t c =
@@ -231,21 +196,6 @@ push_missing-returns-else-low-eq0-clause-wanted t c =
     (subst (λ p. AddsOf (IsWanted c.args.now.now (plan_of p) (bound_in c.args.v.now)) c.args.out.now.items c.push_missing-in-Until.new.out.items) c.deref-in-Until.ensures adds)))
     c.push_missing-in-Until.ensures.wanted
 
-pub push_missing-returns-in_ok-rows-in-Guarded-clause-wanted : goal.push_missing-returns-in_ok-rows-in-Guarded-clause-wanted
-push_missing-returns-in_ok-rows-in-Guarded-clause-wanted t c =
-    let can = subst (λ p. CanAskIn (guards_at c.args.now.now.tables.now) (plan_of p) c.requires.scope) c.in-Guarded.is c.requires.can in
-    let e = c.in_ok-rows-in-Guarded.ensures in
-    on_ok_weaker c.push_under.result (λ adds.
-    subst (λ p. AddsOf (IsWanted c.args.now.now (plan_of p) (bound_in c.args.v.now)) c.args.out.now.items c.push_under.new.out.items) (sym c.in-Guarded.is)
-    (adds_of (IsWantedUnder c.args.now.now (plan_of c.in-Guarded.body.value) (bound_in c.args.v.now) c.in_ok-rows-in-Guarded.rows)
-    (IsWanted c.args.now.now (Guarded c.in-Guarded.node c.in-Guarded.vars c.in-Guarded.guard (tree_of c.in-Guarded.test.value) (plan_of c.in-Guarded.body.value))
-    (bound_in c.args.v.now)) c.args.out.now.items c.push_under.new.out.items
-    (wanted_under c.args.now.now c.in-Guarded.guard (tree_of c.in-Guarded.test.value) c.requires.scope c.in-Guarded.vars can.0.0 can.0.1 can.0.2 (bound_in c.args.v.now) c.requires.fits
-    c.in_ok-rows-in-Guarded.rows e.table e.columns e.evaluated e.known (plan_of c.in-Guarded.body.value) c.in-Guarded.node)
-    (subst (λ p. AddsOf (IsWantedUnder c.args.now.now (plan_of p) (bound_in c.args.v.now) c.in_ok-rows-in-Guarded.rows) c.args.out.now.items c.push_under.new.out.items)
-    c.deref-in-Guarded.ensures adds)))
-    c.push_under.ensures.wanted
-
 pub push_under-returns-clause-wanted : goal.push_under-returns-clause-wanted
 push_under-returns-clause-wanted t c = c.loop-place.invariant.1
 
@@ -268,3 +218,58 @@ push_missing-returns-in_ok-push_missing-in-Both-clause-wanted t c =
     (plan_of c.in-Both.right.value)) (λ leaf is. inr (inr is)))
     (subst (λ p. AddsOf (IsWanted c.args.now.now (plan_of p) (bound_in c.args.v.now)) c.push_missing.new.out.items c.push_missing-in-Both.new.out.items) c.deref-in-Both.ensures adds))))
     c.push_missing-in-Both.ensures.wanted
+
+-- ---- below a guard
+
+pub push_missing-rows_to_ask-requires : goal.push_missing-rows_to_ask-requires
+push_missing-rows_to_ask-requires t c =
+    let is : IsGuardedBy c.args.now.now c.in-Guarded.guard (tree_of c.deref-in-Guarded.result.now) c.in-Guarded.vars (plan_of c.deref-in-Guarded-2.result.now) (bound_in c.args.v.now) (plan_of c.args.plan.now) =
+    record {
+      node = c.in-Guarded.node;
+      is = rw (c.in-Guarded.is, c.deref-in-Guarded.ensures, c.deref-in-Guarded-2.ensures) refl;
+      can = c.requires;
+    } in
+    (plan_of c.args.plan.now, is)
+
+pub push_missing-push_under-requires : goal.push_missing-push_under-requires
+push_missing-push_under-requires t c =
+    let is : IsGuardedBy c.args.now.now c.in-Guarded.guard (tree_of c.deref-in-Guarded.result.now) c.in-Guarded.vars (plan_of c.deref-in-Guarded-2.result.now) (bound_in c.args.v.now) (plan_of c.args.plan.now) =
+    record {
+      node = c.in-Guarded.node;
+      is = rw (c.in-Guarded.is, c.deref-in-Guarded.ensures, c.deref-in-Guarded-2.ensures) refl;
+      can = c.requires;
+    } in
+    (search rules, rw (c.deref-in-Guarded-3.ensures, ← c.deref-in-Guarded-2.ensures) (c.in_ok-rows-in-Guarded.ensures (plan_of c.args.plan.now) is).asked)
+
+pub push_missing-returns-in_ok-rows-in-Guarded-clause-listed : goal.push_missing-returns-in_ok-rows-in-Guarded-clause-listed
+push_missing-returns-in_ok-rows-in-Guarded-clause-listed t c =
+    let is : IsGuardedBy c.args.now.now c.in-Guarded.guard (tree_of c.deref-in-Guarded.result.now) c.in-Guarded.vars (plan_of c.deref-in-Guarded-2.result.now) (bound_in c.args.v.now) (plan_of c.args.plan.now) =
+    record {
+      node = c.in-Guarded.node;
+      is = rw (c.in-Guarded.is, c.deref-in-Guarded.ensures, c.deref-in-Guarded-2.ensures) refl;
+      can = c.requires;
+    } in
+    let now = c.args.now.now in
+    let v = bound_in c.args.v.now in
+    let rows = c.in_ok-rows-in-Guarded.rows in
+    on_ok_weaker c.push_under.result
+    (adds_as now (λ trace. Gathers (λ row. Missing trace (plan_of c.deref-in-Guarded-3.result.now) (filled_from_row v rows.columns row)) rows.rows)
+    (λ trace. Missing trace (plan_of c.args.plan.now) v) c.args.out.now.items c.push_under.new.out.items
+    (rw (c.deref-in-Guarded-3.ensures, ← c.deref-in-Guarded-2.ensures) (c.in_ok-rows-in-Guarded.ensures (plan_of c.args.plan.now) is).missed))
+    c.push_under.ensures.listed
+
+pub push_missing-returns-in_ok-rows-in-Guarded-clause-wanted : goal.push_missing-returns-in_ok-rows-in-Guarded-clause-wanted
+push_missing-returns-in_ok-rows-in-Guarded-clause-wanted t c =
+    let is : IsGuardedBy c.args.now.now c.in-Guarded.guard (tree_of c.deref-in-Guarded.result.now) c.in-Guarded.vars (plan_of c.deref-in-Guarded-2.result.now) (bound_in c.args.v.now) (plan_of c.args.plan.now) =
+    record {
+      node = c.in-Guarded.node;
+      is = rw (c.in-Guarded.is, c.deref-in-Guarded.ensures, c.deref-in-Guarded-2.ensures) refl;
+      can = c.requires;
+    } in
+    let now = c.args.now.now in
+    let v = bound_in c.args.v.now in
+    let rows = c.in_ok-rows-in-Guarded.rows in
+    on_ok_weaker c.push_under.result
+    (adds_of (IsWantedUnder now (plan_of c.deref-in-Guarded-3.result.now) v rows) (IsWanted now (plan_of c.args.plan.now) v) c.args.out.now.items c.push_under.new.out.items
+    (rw (c.deref-in-Guarded-3.ensures, ← c.deref-in-Guarded-2.ensures) (c.in_ok-rows-in-Guarded.ensures (plan_of c.args.plan.now) is).wanted))
+    c.push_under.ensures.wanted

@@ -1,12 +1,12 @@
-use Rattle.obligations.proofs.Vocabulary.{IfSome, not, rules, ◌≡◌, ◌<◌, ◌≤◌, List, [], length, inl, inr, sym, subst, arith, take_all, get_or_from_slice_get, IfOk-weaker, Step, Value, tree_of, Both}
-use Rattle.obligations.proofs.Vocabulary.{Either, TestOr, Guarded, AlwaysPlan, UntilPlan, plan_of, bound_in, filled_from_row, TellsNothing, IsNowOf, CanAskPlan, CanAskIn, IsWanted, IsWantedUnder}
-use Rattle.obligations.proofs.Vocabulary.{guards_at, Missing, Gathers, FirstOf}
-use Rattle.std.specs.Prelude.{None, Some, false}
-use Rattle.obligations.proofs.AdditionLemmas.{body_can, gathers_one_more}
-use Rattle.obligations.proofs.AskablePlanLemmas.{binds_bound, is_test, leaf_binds, within}
-use Rattle.obligations.proofs.FirstMissingLemmas.{First, cause_first, cause_tells, either_first, gathers_first, left_first, right_first, rows_first, suppress_first, suppress_tells, test_first}
+use Rattle.obligations.proofs.Vocabulary.{IfSome, not, rules, ◌≡◌, ◌<◌, ◌≤◌, List, [], length, inl, inr, sym, subst, arith, take_all, get_or_from_slice_get, IfOk-weaker, Value, tree_of, Both, Either}
+use Rattle.obligations.proofs.Vocabulary.{TestOr, AlwaysPlan, UntilPlan, plan_of, bound_in, filled_from_row, TellsNothing, CanAskIn, IsWanted, IsWantedUnder, guards_at, Missing, Gathers, FirstOf, IsNowOf, Literal, Step}
+use Rattle.std.specs.Prelude.{None, Some, false, refl}
+use Rattle.obligations.specs.machine.GuardedRows.{IsGuardedBy}
+use Rattle.obligations.proofs.AdditionLemmas.{gathers_one_more}
+use Rattle.obligations.proofs.AskablePlanLemmas.{is_test, leaf_binds}
+use Rattle.obligations.proofs.FirstMissingLemmas.{First, cause_first, first_as, cause_tells, either_first, gathers_first, left_first, right_first, suppress_first, suppress_tells, test_first}
 use Rattle.obligations.proofs.FirstMissingLemmas.{test_none, until_first}
-use Rattle.obligations.proofs.WantedLiteralLemmas.{cause_wanted, if_some, in_body, in_left, in_right, suppress_wanted, wanted_in, wanted_under}
+use Rattle.obligations.proofs.WantedLiteralLemmas.{cause_wanted, if_some, in_body, in_left, in_right, suppress_wanted, wanted_in}
 use Rattle.obligations.proofs.missing_first.+finding.Goals.{find_missing-else-low-eq0-via-then-low-eq0+in_ok-misses_nothing-in-Until+else-branch-3, find_missing-else-low-eq0-via-else-low-eq0}
 use Rattle.obligations.proofs.missing_first.+finding.Goals as goal
 
@@ -21,28 +21,6 @@ find_missing-returns-then-branch-2-clause-first t c =
     subst (λ p. First c.args.now.now (bound_in c.args.v.now) (plan_of p) None) (sym c.in-TestOr.is)
     (test_none c.args.now.now (bound_in c.args.v.now) c.in-TestOr.guard (tree_of c.in-TestOr.test.value) c.requires.scope can.0.0 c.requires.fits.binds c.in-TestOr.node
     (plan_of c.in-TestOr.body.value) can.0.1 c.in_ok-holds_under-in-TestOr.field-0 c.in_ok-holds_under-in-TestOr.ensures.evaluated c.if-branch-2.true)
-
-pub find_missing-told_under-requires-clause-within : goal.find_missing-told_under-requires-clause-within
-find_missing-told_under-requires-clause-within t c =
-    let can = subst (λ p. CanAskIn (guards_at c.args.now.now.tables.now) (plan_of p) c.requires.scope) c.in-Guarded.is c.requires.can in
-    within c.args.now.now.tables.now c.in-Guarded.guard (tree_of c.in-Guarded.test.value) c.requires.scope can.0.0
-
-pub find_missing-told_under-requires-clause-binds : goal.find_missing-told_under-requires-clause-binds
-find_missing-told_under-requires-clause-binds t c =
-    let can = subst (λ p. CanAskIn (guards_at c.args.now.now.tables.now) (plan_of p) c.requires.scope) c.in-Guarded.is c.requires.can in
-    binds_bound c.args.now.now.tables.now c.in-Guarded.guard (tree_of c.in-Guarded.test.value) c.requires.scope can.0.0 (bound_in c.args.v.now) c.requires.fits.binds
-
-pub find_missing-find_under-requires : goal.find_missing-find_under-requires
-find_missing-find_under-requires t c =
-    let can = subst (λ p. CanAskIn (guards_at c.args.now.now.tables.now) (plan_of p) c.requires.scope) c.in-Guarded.is c.requires.can in
-    let e = c.in_ok-rows-in-Guarded.ensures in (
-      search rules,
-      λ row there. subst (λ p. CanAskPlan (guards_at c.args.now.now.tables.now) (plan_of p) (filled_from_row (bound_in c.args.v.now) c.in_ok-rows-in-Guarded.rows.columns row))
-          (sym c.deref-in-Guarded.ensures)
-          (body_can c.args.now.now c.in-Guarded.guard (tree_of c.in-Guarded.test.value) c.requires.scope c.in-Guarded.vars can.0.0 can.0.1 can.0.2 (bound_in c.args.v.now) c.requires.fits
-          c.in_ok-rows-in-Guarded.rows e.table e.columns e.evaluated
-          (guards_at c.args.now.now.tables.now) (plan_of c.in-Guarded.body.value) can.1 row there),
-    )
 
 pub find_missing-returns-in-Cause-clause-first : goal.find_missing-returns-in-Cause-clause-first
 find_missing-returns-in-Cause-clause-first t c =
@@ -146,30 +124,6 @@ find_missing-returns-else-branch-2-clause-wanted t c =
     (λ leaf is. inr is))
     (subst (λ p. IfSome found (IsWanted c.args.now.now (plan_of p) (bound_in c.args.v.now))) c.deref-in-TestOr.ensures wanted))) c.find_missing-in-TestOr.ensures.wanted
 
-pub find_missing-returns-in_ok-rows-in-Guarded-clause-first : goal.find_missing-returns-in_ok-rows-in-Guarded-clause-first
-find_missing-returns-in_ok-rows-in-Guarded-clause-first t c =
-    let can = subst (λ p. CanAskIn (guards_at c.args.now.now.tables.now) (plan_of p) c.requires.scope) c.in-Guarded.is c.requires.can in
-    let e = c.in_ok-rows-in-Guarded.ensures in
-    IfOk-weaker c.find_under.result _ (First c.args.now.now (bound_in c.args.v.now) (plan_of c.args.plan.now)) (λ found first.
-    subst (λ p. First c.args.now.now (bound_in c.args.v.now) (plan_of p) found) (sym c.in-Guarded.is)
-    (rows_first c.args.now.now c.in-Guarded.guard (tree_of c.in-Guarded.test.value) c.requires.scope c.in-Guarded.vars can.0.0 can.0.1 can.0.2 (bound_in c.args.v.now) c.requires.fits
-    c.in_ok-rows-in-Guarded.rows e.table e.columns e.evaluated c.in-Guarded.node (plan_of c.in-Guarded.body.value) found
-    (subst (λ p. (trace : List Step) → IsNowOf c.args.now.now trace → FirstOf (Gathers
-    (λ row. Missing trace (plan_of p) (filled_from_row (bound_in c.args.v.now) c.in_ok-rows-in-Guarded.rows.columns row)) c.in_ok-rows-in-Guarded.rows.rows) found)
-    c.deref-in-Guarded.ensures first))) c.find_under.ensures.first
-
-pub find_missing-returns-in_ok-rows-in-Guarded-clause-wanted : goal.find_missing-returns-in_ok-rows-in-Guarded-clause-wanted
-find_missing-returns-in_ok-rows-in-Guarded-clause-wanted t c =
-    let can = subst (λ p. CanAskIn (guards_at c.args.now.now.tables.now) (plan_of p) c.requires.scope) c.in-Guarded.is c.requires.can in
-    let e = c.in_ok-rows-in-Guarded.ensures in
-    IfOk-weaker c.find_under.result _ (λ found. IfSome found (IsWanted c.args.now.now (plan_of c.args.plan.now) (bound_in c.args.v.now))) (λ found under.
-    subst (λ p. IfSome found (IsWanted c.args.now.now (plan_of p) (bound_in c.args.v.now))) (sym c.in-Guarded.is)
-    (if_some found (IsWantedUnder c.args.now.now (plan_of c.in-Guarded.body.value) (bound_in c.args.v.now) c.in_ok-rows-in-Guarded.rows)
-    (IsWanted c.args.now.now (Guarded c.in-Guarded.node c.in-Guarded.vars c.in-Guarded.guard (tree_of c.in-Guarded.test.value) (plan_of c.in-Guarded.body.value)) (bound_in c.args.v.now))
-    (wanted_under c.args.now.now c.in-Guarded.guard (tree_of c.in-Guarded.test.value) c.requires.scope c.in-Guarded.vars can.0.0 can.0.1 can.0.2 (bound_in c.args.v.now) c.requires.fits
-    c.in_ok-rows-in-Guarded.rows e.table e.columns e.evaluated e.known (plan_of c.in-Guarded.body.value) c.in-Guarded.node)
-    (subst (λ p. IfSome found (IsWantedUnder c.args.now.now (plan_of p) (bound_in c.args.v.now) c.in_ok-rows-in-Guarded.rows)) c.deref-in-Guarded.ensures under))) c.find_under.ensures.wanted
-
 pub find_missing-returns-else-low-gt0-clause-wanted : goal.find_missing-returns-else-low-gt0-clause-wanted
 find_missing-returns-else-low-gt0-clause-wanted t c =
     IfOk-weaker c.find_missing-in-Always.result _ (λ found. IfSome found (IsWanted c.args.now.now (plan_of c.args.plan.now) (bound_in c.args.v.now))) (λ found wanted.
@@ -258,3 +212,58 @@ misses_nothing-returns-in_ok-is_there-in-Suppress t c =
     subst (λ p. TellsNothing now (plan_of p) v (not c.in_ok-is_there-in-Suppress.field-0)) (sym c.in-Suppress.is)
     (suppress_tells now v c.in-Suppress.node c.in-Suppress.place c.in-Suppress.name c.in-Suppress.terms
     (leaf_binds c.requires.scope c.in-Suppress.terms v can c.requires.fits.binds) c.in_ok-is_there-in-Suppress.field-0 c.in_ok-is_there-in-Suppress.ensures)
+
+-- ---- below a guard
+
+pub find_missing-rows_to_ask-requires : goal.find_missing-rows_to_ask-requires
+find_missing-rows_to_ask-requires t c =
+    let is : IsGuardedBy c.args.now.now c.in-Guarded.guard (tree_of c.deref-in-Guarded.result.now) c.in-Guarded.vars (plan_of c.deref-in-Guarded-2.result.now) (bound_in c.args.v.now) (plan_of c.args.plan.now) =
+    record {
+      node = c.in-Guarded.node;
+      is = rw (c.in-Guarded.is, c.deref-in-Guarded.ensures, c.deref-in-Guarded-2.ensures) refl;
+      can = c.requires;
+    } in
+    (plan_of c.args.plan.now, is)
+
+pub find_missing-find_under-requires : goal.find_missing-find_under-requires
+find_missing-find_under-requires t c =
+    let is : IsGuardedBy c.args.now.now c.in-Guarded.guard (tree_of c.deref-in-Guarded.result.now) c.in-Guarded.vars (plan_of c.deref-in-Guarded-2.result.now) (bound_in c.args.v.now) (plan_of c.args.plan.now) =
+    record {
+      node = c.in-Guarded.node;
+      is = rw (c.in-Guarded.is, c.deref-in-Guarded.ensures, c.deref-in-Guarded-2.ensures) refl;
+      can = c.requires;
+    } in
+    (search rules, rw (c.deref-in-Guarded-3.ensures, ← c.deref-in-Guarded-2.ensures) (c.in_ok-rows-in-Guarded.ensures (plan_of c.args.plan.now) is).asked)
+
+pub find_missing-returns-in_ok-rows-in-Guarded-clause-first : goal.find_missing-returns-in_ok-rows-in-Guarded-clause-first
+find_missing-returns-in_ok-rows-in-Guarded-clause-first t c =
+    let is : IsGuardedBy c.args.now.now c.in-Guarded.guard (tree_of c.deref-in-Guarded.result.now) c.in-Guarded.vars (plan_of c.deref-in-Guarded-2.result.now) (bound_in c.args.v.now) (plan_of c.args.plan.now) =
+    record {
+      node = c.in-Guarded.node;
+      is = rw (c.in-Guarded.is, c.deref-in-Guarded.ensures, c.deref-in-Guarded-2.ensures) refl;
+      can = c.requires;
+    } in
+    let v = bound_in c.args.v.now in
+    let rows = c.in_ok-rows-in-Guarded.rows in
+    let missed : (trace : List Step) → IsNowOf c.args.now.now trace → (literals : List Literal)
+    → Gathers (λ row. Missing trace (plan_of c.deref-in-Guarded-3.result.now) (filled_from_row v rows.columns row)) rows.rows literals
+    → Missing trace (plan_of c.args.plan.now) v literals =
+    rw (c.deref-in-Guarded-3.ensures, ← c.deref-in-Guarded-2.ensures) (c.in_ok-rows-in-Guarded.ensures (plan_of c.args.plan.now) is).missed in
+    IfOk-weaker c.find_under.result _ (First c.args.now.now v (plan_of c.args.plan.now)) (λ found first trace now_of.
+    first_as (Gathers (λ row. Missing trace (plan_of c.deref-in-Guarded-3.result.now) (filled_from_row v rows.columns row)) rows.rows)
+    (Missing trace (plan_of c.args.plan.now) v) (missed trace now_of) found (first trace now_of)) c.find_under.ensures.first
+
+pub find_missing-returns-in_ok-rows-in-Guarded-clause-wanted : goal.find_missing-returns-in_ok-rows-in-Guarded-clause-wanted
+find_missing-returns-in_ok-rows-in-Guarded-clause-wanted t c =
+    let is : IsGuardedBy c.args.now.now c.in-Guarded.guard (tree_of c.deref-in-Guarded.result.now) c.in-Guarded.vars (plan_of c.deref-in-Guarded-2.result.now) (bound_in c.args.v.now) (plan_of c.args.plan.now) =
+    record {
+      node = c.in-Guarded.node;
+      is = rw (c.in-Guarded.is, c.deref-in-Guarded.ensures, c.deref-in-Guarded-2.ensures) refl;
+      can = c.requires;
+    } in
+    let now = c.args.now.now in
+    let v = bound_in c.args.v.now in
+    let rows = c.in_ok-rows-in-Guarded.rows in
+    IfOk-weaker c.find_under.result _ (λ found. IfSome found (IsWanted now (plan_of c.args.plan.now) v)) (λ found under.
+    if_some found (IsWantedUnder now (plan_of c.deref-in-Guarded-3.result.now) v rows) (IsWanted now (plan_of c.args.plan.now) v)
+    (rw (c.deref-in-Guarded-3.ensures, ← c.deref-in-Guarded-2.ensures) (c.in_ok-rows-in-Guarded.ensures (plan_of c.args.plan.now) is).wanted) under) c.find_under.ensures.wanted

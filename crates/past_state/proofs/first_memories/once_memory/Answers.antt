@@ -1,5 +1,5 @@
-use Rattle.past_state.proofs.Vocabulary.{◌∙◌, [], refl, tree_of}
-use Rattle.past_state.proofs.FirstMemoryLemmas.{distinct, asks, for_once}
+use Rattle.past_state.proofs.Vocabulary.{tree_of}
+use Rattle.past_state.proofs.FirstMemoryLemmas.{distinct, for_once}
 use Rattle.past_state.proofs.first_memories.once_memory.Goals as goal
 
 pub new-window-requires : goal.new-window-requires
@@ -7,5 +7,4 @@ new-window-requires c = distinct c.in_ok-columns.columns c.in_ok-columns.ensures
 
 pub returns : goal.returns
 returns c = λ place. for_once place c.args.interval (tree_of c.args.operand.now) c.new-window.result c.in_ok-right.right c.in_ok-columns.columns c.new-window.ensures.interval
-    c.new-window.ensures.columns c.in_ok-columns.ensures
-    (asks (tree_of c.args.operand.now) [] c.in_ok-right.right (tree_of c.args.operand.now) c.in_ok-right.ensures.formula refl (c.in_ok-right.ensures.bound ∙ c.new.ensures) c.requires.fresh)
+    c.new-window.ensures.columns c.in_ok-columns.ensures c.in_ok-right.ensures

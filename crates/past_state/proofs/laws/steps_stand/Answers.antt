@@ -9,6 +9,8 @@ returns-clause-tables c = run_stands c.dependence.ensures.names (record {
   once_answers = c.once.ensures.answers;
   once_goes_on = c.once.ensures.goes_on;
   denied = c.once.ensures.denied;
+  begun_answers = c.once_begun.ensures.answers;
+  begun_goes_on = c.once_begun.ensures.goes_on;
   prev_answers = c.prev.ensures.answers;
   prev_goes_on = c.prev.ensures.goes_on;
 })
@@ -21,6 +23,8 @@ returns-clause-committed c = commit_stands c.dependence.ensures.names (record {
   once_answers = c.once.ensures.answers;
   once_goes_on = c.once.ensures.goes_on;
   denied = c.once.ensures.denied;
+  begun_answers = c.once_begun.ensures.answers;
+  begun_goes_on = c.once_begun.ensures.goes_on;
   prev_answers = c.prev.ensures.answers;
   prev_goes_on = c.prev.ensures.goes_on;
 })

@@ -1,5 +1,6 @@
-use Rattle.choice_step.proofs.Vocabulary.{◌≡◌, ◌∙◌, ◌+◌, IfSome, length, map, sym, subst, ap, arith, same_Some, length-append, slice_get, [], ◌∷◌, plan_of, plan_at, CanBatch, KeepsRest, AreBatches}
+use Rattle.choice_step.proofs.Vocabulary.{◌≡◌, ◌∙◌, ◌+◌, IfSome, length, map, sym, subst, ap, arith, same_Some, length-append, slice_get, [], ◌∷◌, plan_of, plan_at, CanBatch, LeavesRestIn, AreBatches}
 use Rattle.choice_step.proofs.BatchLemmas.{batches_more, none_made}
+use Rattle.obligations.specs.declared.literals.LiteralKind.TheVariants as kind
 use Rattle.choice_step.proofs.batches.Batches.of.Goals as goal
 
 pub loop-plan-init : goal.loop-plan-init
@@ -16,7 +17,7 @@ loop-plan-preserved c =
           (batches_more plans names c.batch_name.result was.1 (λ own is.
           let batch = subst (λ o. IfSome o (λ name. CanBatch plans name (plan_of c.plan-item.result))) is c.batch_name.ensures in
           record {
-            falling = batch.0;
-            keeps = λ plan there. subst (KeepsRest own) (same_Some (plan_of c.plan-item.result) plan (sym at ∙ ap (slice_get plans) (sym was.0) ∙ there)) batch.1;
+            unmoved = batch.0;
+            leaves = λ plan there. subst (LeavesRestIn kind.Suppress own) (same_Some (plan_of c.plan-item.result) plan (sym at ∙ ap (slice_get plans) (sym was.0) ∙ there)) batch.1;
           })),
     )

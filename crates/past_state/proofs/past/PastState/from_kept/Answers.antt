@@ -7,8 +7,8 @@ use Rattle.past_state.proofs.RestoredLemmas.{made_stands}
 use Rattle.past_state.proofs.RestoredRowLemmas.{at_last, can_restore, pushed_for, from_start, none_later, rows_exact, rows_within, same_kinds}
 use Rattle.past_state.proofs.past.PastState.from_kept.Goals as goal
 
-pub restore_each-requires : goal.restore_each-requires
-restore_each-requires c = can_restore (all_operators (map tree_in c.args.guards.now)) c.new-operators.result.items c.push_all.new.out.items c.args.last c.args.rows
+pub restore_all-requires : goal.restore_all-requires
+restore_all-requires c = can_restore (all_operators (map tree_in c.args.guards.now)) c.new-operators.result.items c.push_all.new.out.items c.args.last c.args.rows
     c.new-operators.ensures.items c.in_ok-counts.ensures.pushed c.requires.bounds
 
 pub place_all-requires-clause-few : goal.place_all-requires-clause-few
@@ -28,7 +28,7 @@ invariant_of-result c = (
       (new_past c.args.guards.now c.in_ok-placed.placed.items c.new-operators.result.items c.push_all.new.out.items c.in_ok-placed.ensures.copies c.in_ok-placed.ensures.begin
       c.in_ok-placed.ensures.past c.requires.fresh c.new-operators.ensures.items c.in_ok-counts.ensures.pushed)
       (same_kinds c.args.last c.args.rows 0 c.push_all.new.out.items c.in_ok-items.items.items c.in_ok-items.ensures))),
-  λ name. subst (λ l. Contains c.in_ok-names.names name ↔ Contains (guard_names l) name) (c.as_slice.ensures.value ∙ ap (λ v. v.items) (sym c.in_ok-guards.ensures.ok)) (c.in_ok-names.ensures name),
+  λ name. subst (λ l. Contains c.in_ok-names.names name ↔ Contains (guard_names l) name) (c.as_slice-2.ensures.value ∙ ap (λ v. v.items) (sym c.in_ok-guards.ensures.ok)) (c.in_ok-names.ensures name),
 )
 
 pub returns-clause-last : goal.returns-clause-last

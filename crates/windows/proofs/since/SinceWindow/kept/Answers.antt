@@ -22,7 +22,7 @@ loop-row-preserved c =
     c.in_ok-push_pairs.ensures.1 c.in_ok-push_pairs.ensures.2 c.loop-row.invariant)
 
 least : (c : After-drop-rows-inside-3) → KeepsLeast c.args.self.now
-least c = subst KeepsLeast c.self.view_is (window_least _ _ _ _ _ _ c.self.invariant)
+least c = subst KeepsLeast c.self.view_is (window_least _ _ _ _ _ _ _ c.self.invariant)
 
 exact : (c : After-drop-rows-inside-3) → ArePairsOf c.args.self.now c.loop-row.pairs.items
 exact c = are_pairs c.args.self.now (least c) c.self.inside.entries.entries (ap (λ w. w.kept) c.self.view_is) c.in_ok-rows.rows c.loop-row.pairs.items c.in_ok-rows.ensures.table
@@ -43,7 +43,7 @@ pub returns-clause-least : goal.returns-clause-least
 returns-clause-least c = least c
 
 pub returns-in_err-rows-clause-least : goal.returns-in_err-rows-clause-least
-returns-in_err-rows-clause-least c = subst KeepsLeast c.self.view_is (window_least _ _ _ _ _ _ c.self.invariant)
+returns-in_err-rows-clause-least c = subst KeepsLeast c.self.view_is (window_least _ _ _ _ _ _ _ c.self.invariant)
 
 pub returns-in_err-push_pairs-clause-least : goal.returns-in_err-push_pairs-clause-least
-returns-in_err-push_pairs-clause-least c = subst KeepsLeast c.self.view_is (window_least _ _ _ _ _ _ c.self.invariant)
+returns-in_err-push_pairs-clause-least c = subst KeepsLeast c.self.view_is (window_least _ _ _ _ _ _ _ c.self.invariant)

@@ -1,6 +1,0 @@
-use Rattle.windows.proofs.Vocabulary.{waiting_of, with_rows}
-use Rattle.windows.proofs.QueueLemmas.{last_waits}
-use Rattle.windows.proofs.expiry.push_step.Goals as goal
-
-pub returns-in_ok-push-clause-waits : goal.returns-in_ok-push-clause-waits
-returns-in_ok-push-clause-waits c = λ high is. last_waits (waiting_of c.args.queue.now) (waiting_of c.push.new.self) (with_rows c.args.time c.args.right.now) c.in_ok-push.ensures.waits

@@ -1,0 +1,88 @@
+//! What a committed step adds to a window.
+ghost use Rattle.std.specs.Prelude.{◌≡◌, ◌≤◌, [], Contains, IfOk, IfSome, None, OnErr, OnOk, length};
+ghost use Rattle.enf_data.specs.meaning.Membership.{HasNoRepeats};
+ghost use Rattle.windows.specs.machine.DueQueues.{IsQueueAt};
+ghost use Rattle.windows.specs.machine.RowIndexes.{IsIndexOf};
+ghost use Rattle.windows.specs.machine.WindowEntries.{AddAtMost, AddsTimes, AreLeast, AreWindowEntries};
+ghost use Rattle.windows.specs.machine.WindowEntries.{count_pairs, rows_of};
+ghost use Rattle.windows.specs.machine.Windows.{IsWindow};
+
+use crate::compaction::compact_if_many;
+use crate::entries::{Entries, add_rows};
+use crate::queue::DueQueue;
+use crate::row_index::RowIndex;
+use enf_data::intervals::Interval;
+use enf_data::memory::NoMemory;
+use valuations::Table;
+
+// Adds the time to those of each row of the table. Where memory has run out, nothing is left.
+pub fn add_step(
+    entries: &mut Entries,
+    index: &mut Option<RowIndex>,
+    queue: &mut DueQueue,
+    right: &Table,
+    interval: Interval,
+    now: u64,
+    pairs: usize,
+) -> Result<usize, NoMemory>
+    requires distinct { HasNoRepeats right.now.columns }
+    requires kept { AreWindowEntries (length right.now.columns) now entries.old.entries }
+    requires least { AreLeast interval now entries.old.entries }
+    requires indexed { IfSome index.old (IsIndexOf right.now.columns (rows_of entries.old.entries)) }
+    requires queued { IsQueueAt interval now entries.old.entries queue.old }
+    requires counted { pairs ≤ count_pairs entries.old.entries }
+    ensures among { OnOk result (AddAtMost now (Contains right.now.rows) entries.old.entries entries.new.entries) }
+    ensures added { OnOk result (AddsTimes interval now (Contains right.now.rows)
+        entries.old.entries entries.new.entries) }
+    ensures window { IfOk result
+        (IsWindow interval right.now.columns now entries.new.entries queue.new index.new) }
+    ensures none { OnErr result ((entries.new.entries ≡ []) × (index.new ≡ None)
+        × (queue.new ≡ record { dues = []; far = 0 })) }
+{
+    match add_and_compact(entries, index, queue, right, interval, now, pairs) {
+        Ok(left) => Ok(left),
+        Err(error) => {
+            let_all_go(entries, index, queue);
+            Err(error)
+        }
+    }
+}
+
+// Where memory has run out, the window answers no more.
+#[inline(never)]
+fn let_all_go(entries: &mut Entries, index: &mut Option<RowIndex>, queue: &mut DueQueue)
+    ensures entries { entries.new.entries ≡ [] }
+    ensures index { index.new ≡ None }
+    ensures queue { queue.new ≡ record { dues = []; far = 0 } }
+{
+    let alloc = *entries.allocator();
+    entries.clear();
+    *index = None;
+    *queue = DueQueue::new(alloc);
+}
+
+fn add_and_compact(
+    entries: &mut Entries,
+    index: &mut Option<RowIndex>,
+    queue: &mut DueQueue,
+    right: &Table,
+    interval: Interval,
+    now: u64,
+    pairs: usize,
+) -> Result<usize, NoMemory>
+    requires distinct { HasNoRepeats right.now.columns }
+    requires kept { AreWindowEntries (length right.now.columns) now entries.old.entries }
+    requires least { AreLeast interval now entries.old.entries }
+    requires indexed { IfSome index.old (IsIndexOf right.now.columns (rows_of entries.old.entries)) }
+    requires queued { IsQueueAt interval now entries.old.entries queue.old }
+    requires counted { pairs ≤ count_pairs entries.old.entries }
+    ensures among { OnOk result (AddAtMost now (Contains right.now.rows) entries.old.entries entries.new.entries) }
+    ensures added { OnOk result (AddsTimes interval now (Contains right.now.rows)
+        entries.old.entries entries.new.entries) }
+    ensures window { IfOk result
+        (IsWindow interval right.now.columns now entries.new.entries queue.new index.new) }
+{
+    let left = add_rows(entries, index, queue, right, interval, now, pairs)?;
+    let among = right.columns().as_slice();
+    compact_if_many(entries, index, queue, among, interval, now, left)
+}
