@@ -48,7 +48,7 @@ def twelve(count=0):
 
 os.chdir(os.path.join(os.path.dirname(os.path.abspath(__file__)), '..'))
 PERSONAL, TWELVE, _ = twelve()
-GENERATED = read('examples/generated/generated.sig')
+GENERATED = read('tests/generated/generated.sig')
 
 
 # Logs, as their lines.
@@ -402,7 +402,7 @@ WOKEN = [
         memory_of_one(of_long_ids, 'a duty', 620), n=600000),
     Row('state', rules(CONSENT, 'forall u. request(u) -> always[0,1000000] not use(u)'), lines_of_states, n=100000),
     Row('writes-none', '', writes(generated), n=20000, signature=GENERATED),
-    Row('writes-one', read('examples/generated/generated.policy'), writes(generated), n=20000, signature=GENERATED),
+    Row('writes-one', read('tests/generated/generated.policy'), writes(generated), n=20000, signature=GENERATED),
     Row('writes-twelve', TWELVE, writes(lambda n: [twelve(n)[2]]), n=20000, signature=PERSONAL),
 ]
 

@@ -40,10 +40,10 @@ PYTHON
     }'
 }
 
-cp examples/generated/generated.sig "$work/signature"
+cp tests/generated/generated.sig "$work/signature"
 : > "$work/empty"
 : > "$work/none.log"
-cp examples/generated/generated.policy "$work/raise"
+cp tests/generated/generated.policy "$work/raise"
 bin/enf gen 1 2000 > "$work/tiny.log"
 bin/enf gen 1 20000 > "$work/records.log"
 measure gen small /dev/null "$work/small.log" gen 1 100000

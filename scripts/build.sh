@@ -1,6 +1,7 @@
 #!/usr/bin/env bash
 # build.sh [CRATE]: proves the program and the crates below it, side by side where they do not wait for each other, says how
-# far it is, and leaves the program as bin/enf beside the checksum of what it was built from. For another crate it only proves.
+# far it is, and leaves the program as bin/enf beside bin/enf.sources, with the checksums of what it was built from and of
+# itself, the commit and the kit. For another crate it only proves.
 set -u -o pipefail
 cd "$(dirname "$0")/.." || exit 1
 crate=${1:-enf_cli}
@@ -67,5 +68,10 @@ if [ "$(scripts/sources.sh)" != "$sources" ]; then
     exit 1
 fi
 cp crates/enf_cli/out/enf_cli bin/enf
-printf '%s\n' "$sources" > bin/enf.sources
+{
+    printf '%s\n' "$sources"
+    sha256sum < bin/enf | cut -d ' ' -f 1
+    echo "commit $(git describe --always --dirty --abbrev=40 --exclude='*' 2> /dev/null || echo unknown)"
+    rt version
+} > bin/enf.sources
 echo "bin/enf is the proved program."

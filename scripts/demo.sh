@@ -1,7 +1,6 @@
 #!/usr/bin/env bash
 # Enforces the logs of examples/, and shows for each what was changed, the report and the status, and what an audit says
-# of what is emitted and of the log as it came. One of them is a generated log, which it generates again. It checks two
-# policies, of which one is refused.
+# of what is emitted and of the log as it came. It checks two policies, of which one is refused.
 set -u
 cd "$(dirname "$0")/.." || exit 1
 work=$(mktemp -d) || exit 1
@@ -57,20 +56,20 @@ enforce_folder() {
     show_audited "$1"
 }
 
-say_program
+find_program
 mkdir "$work/files"
 cp examples/*/* "$work/files"
-for name in data access safety generated; do
+for name in purposes data access safety; do
     add_run "$name" "examples/$name/$name.log" enforce "$name.sig" "$name.policy"
     add_run "$name-enforced" "examples/$name/$name.enforced" audit "$name.sig" "$name.policy"
     add_run "$name-log" "examples/$name/$name.log" audit "$name.sig" "$name.policy"
 done
 add_run falling examples/access/falling.log enforce access.sig access.policy
-add_run log /dev/null gen 1 8
 add_run checked /dev/null check data.sig data.policy
 add_run reminder /dev/null check data.sig reminder.policy
 make_runs "$work/files"
 
+enforce_folder purposes
 enforce_folder data
 show_checked checked
 want checked 0 examples/data/data.checked
@@ -81,8 +80,3 @@ enforce_folder access
 show_enforced falling access/falling.log
 want falling 3 examples/access/falling.enforced examples/access/falling.report
 enforce_folder safety
-echo
-echo "== enf gen 1 8, which is examples/generated/generated.log"
-show_lines "$work/log.output"
-want log 0 examples/generated/generated.log
-enforce_folder generated

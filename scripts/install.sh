@@ -15,9 +15,12 @@ fi
 documents=$prefix/share/doc/enf
 install -D -m 755 bin/enf "$prefix/bin/enf" &&
     install -D -m 644 docs/enf.1 "$prefix/share/man/man1/enf.1" &&
-    install -D -m 644 -t "$documents" README.md docs/*.md || exit 1
+    install -D -m 644 -t "$documents" README.md &&
+    install -D -m 644 -t "$documents/docs" docs/*.md || exit 1
 for folder in examples/*/; do
     install -D -m 644 -t "$documents/$folder" "$folder"* || exit 1
 done
-install -m 644 examples/README.md "$documents/examples" &&
+# The third line of bin/enf.sources names the commit, the fourth the kit.
+sed -n '3s/^/\nThis program was built from /; 4s/.*/with the kit `&`./; 3,4p' bin/enf.sources >> "$documents/README.md" &&
+    install -m 644 examples/README.md "$documents/examples" &&
     echo "enf is installed: $prefix/bin/enf, man enf, $documents."

@@ -1,21 +1,19 @@
 #!/usr/bin/env bash
-# Stops the enforcement of each log of examples/, and of one under twelve rules, after each of its records with the state
-# saved, goes on from there, and compares all that is emitted and the report with those of the run that was not stopped. Then
-# it stops after every record of the log, one after the other.
+# Stops the enforcement of each log of examples/, of tests/generated, which has to be what `enf gen` gives, and of one under
+# twelve rules, after each of its records with the state saved, goes on from there, and compares all that is emitted and the
+# report with those of the run that was not stopped. Then it stops after every record of the log, one after the other. The
+# program is the proved one, or the one that ENF names.
 set -u
 cd "$(dirname "$0")/.." || exit 1
 . scripts/enf.sh
 . scripts/twelve.sh
-if ! is_proved; then
-    echo "bin/enf is not there or was built from other sources; 'make build' makes it" >&2
-    exit 1
-fi
+want_program
 work=$(mktemp -d) || exit 1
 trap 'rm -rf "$work"' EXIT
 
 # run NAME INPUT WORD..: enforces a log, and leaves its output, report and status in $work/NAME.*.
 run() {
-    bin/enf enforce "${@:3}" < "$2" > "$work/$1.output" 2> "$work/$1.report"
+    "$program" enforce "${@:3}" < "$2" > "$work/$1.output" 2> "$work/$1.report"
     echo $? > "$work/$1.status"
 }
 
@@ -69,10 +67,13 @@ hold_each() {
     cat "$work/all" "$work/each.output" | cmp -s - "$work/whole.output" || fail "$3 stopped after every record is not as it goes on"
 }
 
-for example in access data generated safety; do
-    folder=examples/$example
-    hold "$folder/$example.sig" "$folder/$example.policy" "$folder/$example.log"
+for folder in examples/*/ tests/generated/; do
+    example=$(basename "$folder")
+    hold "$folder$example.sig" "$folder$example.policy" "$folder$example.log"
+    cat "$folder$example.enforced" "$folder$example.report" |
+        cmp -s - <(cat "$work/whole.output" "$work/whole.report") || fail "$folder has other files than what comes"
 done
+"$program" gen 1 8 | cmp -s - tests/generated/generated.log || fail "tests/generated has not what enf gen 1 8 gives"
 hold examples/access/access.sig examples/access/access.policy examples/access/falling.log
 write_twelve "$work" 200
 hold "$work/personal" "$work/twelve" "$work/twelve.log"

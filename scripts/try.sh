@@ -70,8 +70,7 @@ show_refusal() {
     esac
 }
 
-say_program
-echo
+find_program
 if [ -n "${3:-}" ]; then
     add_run own "$work/log" enforce signature policy
     make_runs "$work/files"

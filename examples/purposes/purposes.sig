@@ -1,0 +1,5 @@
+consent(text, text);
+withdraw(text, text);
+request(text);
+use(text, text) -;
+erase(text) +;
