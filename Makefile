@@ -1,6 +1,6 @@
 # enf: a first run, files of one's own, the proved program, the tests.
 
-.PHONY: help demo try build install recipes bench bars environment check trusted test fmt clean
+.PHONY: help demo try build install recipes bench bars environment check trusted test fmt clean service-deps service service-test
 
 help:
 	@echo 'make demo                            enforces the logs of examples/, shows what was changed, and checks two policies'
@@ -13,7 +13,10 @@ help:
 	@echo 'make environment                     runs the proved program where what is around it fails'
 	@echo 'make check                           proves every crate, over what earlier checks kept; from nothing it takes hours'
 	@echo 'make trusted                         prints what must be believed of the theorem, and fails where it is too much'
-	@echo 'make test                            proves and tests everything (rt ci); from nothing it takes hours'
+	@echo 'make test                            proves and tests everything (rt ci, and the service where Go is); from nothing it takes hours'
+	@echo 'make service-deps                    installs what the service is built with, on Debian'
+	@echo 'make service                         builds the service as bin/enfd'
+	@echo 'make service-test                    looks the service over and runs its tests by the proved program'
 	@echo 'make fmt                             lays out the sources of every crate'
 	@echo 'make clean                           removes what was built, the proved program too'
 
@@ -50,10 +53,21 @@ trusted:
 
 test:
 	rt ci
+	@if command -v go > /dev/null; then ./scripts/service.sh test; else echo 'Go is not here: the service is not tried.'; fi
+
+service-deps:
+	apt-get install -y --no-install-recommends golang-go golang-github-prometheus-client-golang-dev gcc libc6-dev
+
+service:
+	@./scripts/service.sh build
+
+service-test:
+	@./scripts/service.sh test
 
 fmt:
 	@for crate in crates/*/; do (cd "$$crate" && rt fmt) || exit 1; done
+	@if command -v gofmt > /dev/null; then gofmt -w service/cmd service/internal; fi
 	@echo 'The sources of every crate are laid out.'
 
 clean:
-	rm -rf bin out crates/*/out
+	rm -rf bin out crates/*/out service/out
