@@ -1,6 +1,6 @@
 # enf: a first run, files of one's own, the proved program, the tests.
 
-.PHONY: help demo try build install recipes bench bars environment check trusted test fmt clean service-deps service service-test
+.PHONY: help demo try build install recipes bench bars collisions environment check trusted test fmt clean service-deps service service-test
 
 help:
 	@echo 'make demo                            enforces the logs of examples/, shows what was changed, and checks two policies'
@@ -11,6 +11,7 @@ help:
 	@echo 'make bench                           measures the proved program on generated logs, and the bars'
 	@echo 'make bars                            measures what must not grow with what is remembered or pending'
 	@echo 'make environment                     runs the proved program where what is around it fails'
+	@echo 'make collisions                      measures logs whose values collide in a hash with a known seed'
 	@echo 'make check                           proves every crate, over what earlier checks kept; from nothing it takes hours'
 	@echo 'make trusted                         prints what must be believed of the theorem, and fails where it is too much'
 	@echo 'make test                            proves and tests everything (rt ci, and the service where Go is); from nothing it takes hours'
@@ -42,6 +43,9 @@ bench:
 bars:
 	@./scripts/bars.py
 
+collisions:
+	@./scripts/collisions.py
+
 environment:
 	@./scripts/environment.py
 
@@ -56,6 +60,7 @@ test:
 	@if command -v go > /dev/null; then ./scripts/service.sh test; else echo 'Go is not here: the service is not tried.'; fi
 
 service-deps:
+	apt-get update
 	apt-get install -y --no-install-recommends golang-go golang-github-prometheus-client-golang-dev gcc libc6-dev
 
 service:

@@ -10,8 +10,10 @@ NAME is a row, the part of a figure's name before the dot; --fast takes a tenth 
 bin/enf. Figures that are over are counted at the end, and do not fail; the status is 1 where a run fails, or makes
 other changes than its log wants.
 """
+import atexit
 import collections
 import contextlib
+import functools
 import os
 import re
 import shutil
@@ -44,6 +46,15 @@ def twelve(count=0):
     with tempfile.TemporaryDirectory() as folder:
         subprocess.run(['bash', '-c', '. scripts/twelve.sh; write_twelve "$0" "$1"', folder, str(count)], check=True)
         return [read(os.path.join(folder, name)) for name in ('personal', 'twelve', 'twelve.log')]
+
+
+@functools.cache
+def steady():
+    """The words of scripts/steady.sh, which lays its library into a folder that goes at the end."""
+    folder = tempfile.mkdtemp(prefix='steady-')
+    atexit.register(shutil.rmtree, folder)
+    return subprocess.run(['bash', '-c', '. scripts/steady.sh; steady "$0"', folder], check=True, text=True,
+                          stdout=subprocess.PIPE).stdout.split()
 
 
 os.chdir(os.path.join(os.path.dirname(os.path.abspath(__file__)), '..'))
@@ -211,7 +222,7 @@ class Row:
         """The instructions of a run that makes so many changes."""
         counted = self.path('counted')
         callgrind = ['valgrind', '--tool=callgrind', '--callgrind-out-file=/dev/null', '--log-file=' + counted]
-        made = self.run(log, word, more, callgrind).report.count('\n')
+        made = self.run(log, word, more, [*steady(), *callgrind]).report.count('\n')
         if changes is not None and made != changes:
             raise Failed('%d changes where %d are due' % (made, changes))
         return int(re.search('Collected : ([0-9]+)', self.read('counted')).group(1))

@@ -7,12 +7,14 @@ set -u
 cd "$(dirname "$0")/.." || exit 1
 . scripts/enf.sh
 . scripts/twelve.sh
+. scripts/steady.sh
 if ! is_proved; then
     echo "bin/enf is not there or was built from other sources; 'make build' makes it" >&2
     exit 1
 fi
 work=$(mktemp -d) || exit 1
 trap 'rm -rf "$work"' EXIT
+read -ra steady < <(steady "$work")
 
 # measure NAME SIZE INPUT OUTPUT WORD..: the rate over the input or the output and the peak memory of a run.
 measure() {
@@ -51,7 +53,7 @@ measure gen large /dev/null "$work/large.log" gen 1 1000000
 
 # instructions POLICY LOG [SIGNATURE]: how many instructions a run takes.
 instructions() {
-    valgrind --tool=callgrind --callgrind-out-file=/dev/null bin/enf enforce "$work/${3:-signature}" "$work/$1" \
+    "${steady[@]}" valgrind --tool=callgrind --callgrind-out-file=/dev/null bin/enf enforce "$work/${3:-signature}" "$work/$1" \
         < "$work/$2.log" 2>&1 > /dev/null | sed -n 's/.*Collected : //p'
 }
 
@@ -148,7 +150,7 @@ PYTHON
 
 # resumed POLICY STATE LOG: how many instructions a run takes that goes on from a state and saves one.
 resumed() {
-    valgrind --tool=callgrind --callgrind-out-file=/dev/null bin/enf enforce "$work/signature" "$work/$1" \
+    "${steady[@]}" valgrind --tool=callgrind --callgrind-out-file=/dev/null bin/enf enforce "$work/signature" "$work/$1" \
         --resume "$work/$2" --save "$work/again" < "$work/$3.log" 2>&1 > /dev/null | sed -n 's/.*Collected : //p'
 }
 

@@ -16,6 +16,7 @@ import tempfile
 import threading
 
 ENF = os.path.abspath(os.environ.get('ENF', 'bin/enf'))
+INJECTED = os.path.join(os.path.dirname(os.path.abspath(__file__)), 'injected.py')
 LIMIT = 60
 
 SIGNATURE = 'request(text); consent(text); use(text) -; delete(text) +;\n'
@@ -55,13 +56,14 @@ class Program:
         with open(self.path(name), errors='replace') as file:
             return file.read()
 
-    def begin(self, more=(), policy='policy', before=None, word='enforce', **streams):
+    def begin(self, more=(), policy='policy', before=None, word='enforce', through=(), **streams):
         """Begins a run. Its output and report go to files where nothing else is said."""
         for name in ('stdout', 'stderr'):
             if name not in streams:
                 streams[name] = open(self.path(name), 'w')
         streams.setdefault('stdin', open(self.path('log')))
-        return subprocess.Popen([ENF, word, 'signature', policy, *more], cwd=self.folder, preexec_fn=before, **streams)
+        command = [*through, ENF, word, 'signature', policy, *more]
+        return subprocess.Popen(command, cwd=self.folder, preexec_fn=before, **streams)
 
     def run(self, *args, **streams):
         return self.ended(self.begin(*args, **streams))
@@ -93,6 +95,30 @@ def a_log_that_would_block(program):
     ended = program.run(stdin=reader)
     os.close(writer)
     return ended
+
+
+def an_output_that_would_block(program):
+    reader, writer = os.pipe()
+    os.set_blocking(writer, False)
+    try:
+        while True:
+            os.write(writer, bytes(4096))
+    except BlockingIOError:
+        pass
+    ended = program.run(stdout=writer)
+    os.close(reader)
+    return ended
+
+
+def failing(call, stream, times, how):
+    """The first calls of that stream fail so."""
+    through = [sys.executable, INJECTED, call, str(stream), str(times), how]
+    return lambda program: program.run(through=through)
+
+
+def interrupted(call, stream, times):
+    run = failing(call, stream, times, 'EINTR')
+    return lambda program: whole(run(program))
 
 
 def a_log_that_never_ends(program):
@@ -220,13 +246,14 @@ def with_little_memory(program):
 CASES = [
     Case('the log is a folder', 4, 'read fault', a_log_that_is_a_folder),
     Case('standard input is closed', 4, 'read fault', without(0)),
-    Case('the log would block', 4, 'read fault', a_log_that_would_block),
+    Case('the log would block', 4, 'the log would block: enf reads a stream that waits', a_log_that_would_block),
     Case('the log never ends, and no record in it does', 3, 'record 1: too long', a_log_that_never_ends),
     Case('the log is typed at a terminal', 0, OWED, a_terminal),
     Case('the log comes byte by byte', 0, OWED, byte_by_byte),
     Case('standard output is closed', 5, '', without(1)),
     Case('the output goes to a full disk', 5, '', into(stdout='/dev/full')),
     Case('who reads the output has gone', 5, '', a_reader_that_goes_away),
+    Case('the output would block', 5, 'the output would block: enf writes to a stream that waits', an_output_that_would_block),
     Case('standard error is closed', 5, '', without(2)),
     Case('the report goes to a full disk', 5, '', into(stderr='/dev/full')),
     Case('the policy is not there', 4, 'read fault', a_policy_that_is('nowhere')),
@@ -240,6 +267,11 @@ CASES = [
     Case('the state was cut at its end, and is resumed', 2, 'state: syntax at line 5', a_state_that_was_cut),
     Case('the state is resumed and saved under its own name', 0, '', a_state_resumed_and_saved_in_its_place),
     Case('two runs of one log save to one file, which is resumed', 0, '', two_that_save_to_one_file),
+    Case('the system gives no random number', 4, 'read fault', failing('getrandom', 0, 9, 'ENOSYS')),
+    Case('three draws of a random number are interrupted', 0, OWED, interrupted('getrandom', 0, 3)),
+    Case('three reads of the log are interrupted', 0, OWED, interrupted('read', 0, 3)),
+    Case('three writes of the output are interrupted', 0, OWED, interrupted('write', 1, 3)),
+    Case('three writes of the report are interrupted', 0, OWED, interrupted('write', 2, 3)),
     Case('SIGTERM while a record is awaited', -signal.SIGTERM, '', sent(signal.SIGTERM)),
     Case('SIGSTOP and SIGCONT while a record is awaited', 0, OWED_AT_ONCE, sent(signal.SIGSTOP)),
     Case('256 KB of stack', 0, OWED, with_little_stack(256 * 1024)),

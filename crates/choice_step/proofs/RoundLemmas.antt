@@ -11,7 +11,7 @@ module _ (exists : MissingOfExists) (sleep : SleepersMissNothing) (early : Early
   abbrev now : List Step
   now = trace_with_step trace time events
 
-  sleeper_met : (x : Listed) → CanAskOf guards plans x.instance → IsWaitOf plans x.wait x.instance → SleepsNow events (step_moment inserted time) x
+  pub sleeper_met : (x : Listed) → CanAskOf guards plans x.instance → IsWaitOf plans x.wait x.instance → SleepsNow events (step_moment inserted time) x
       → Met plans inserted now x.instance
   sleeper_met x can is sleeps =
       let i = x.instance in

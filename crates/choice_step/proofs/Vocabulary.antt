@@ -33,7 +33,7 @@ pub use Rattle.choice_step.specs.machine.FirstActions.{IsActionFor, IsPlainFound
 pub use Rattle.choice_step.specs.machine.FittingEvents.{CausesFit, EventsFit, KeepFitting, TraceEventsFit}
 pub use Rattle.choice_step.specs.machine.FittingLaws.{DecidedFits, DrainFits, FollowedFits}
 pub use Rattle.choice_step.specs.machine.JustificationLaws.{DecidedAreJustified, LeastDeadlineIsNeeded, WillBeJustified}
-pub use Rattle.choice_step.specs.machine.Laws.{ActionsAreLawful, AreDistinct, AsleepBeginsNothing, AsleepDecidesNothing, CausesAlone, DecidedIsDistinct, DecidedMissesNothing, DecidesIsOne, DrainIsOne}
+pub use Rattle.choice_step.specs.machine.Laws.{ActionsAreLawful, AreDistinct, CausesAlone, DecidedIsDistinct, DecidedMissesNothing, DecidesIsOne, DrainIsOne}
 pub use Rattle.choice_step.specs.machine.Laws.{EventsAreActedOnOnce, FollowsIsOne, IsReach, SomeDecision, SomeFollows, SomeInserts}
 pub use Rattle.choice_step.specs.machine.LoopActions.{ActsFor, ActsInTurn, ActsOn, AllCanBeAsked, GoesFrom, IsFoundFrom, ActsOwn, LeavesNothing, StaysMet}
 pub use Rattle.choice_step.specs.machine.MetPlaces.{CoversMet, NothingBefore, RootsAreMet, WillBeMetBefore}

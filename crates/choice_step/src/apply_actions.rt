@@ -16,6 +16,7 @@ use crate::first_missing::{Found, Place, act, action_of, action_of_root, plain_r
 use enf_data::event_sets::EventSet;
 use enf_data::events::NameId;
 use enf_data::memory::NoMemory;
+use enf_data::seeds::Seed;
 use obligations::laws::unread_stays_met;
 use obligations::{Literal, LiteralKind};
 use past_state::PastState;
@@ -28,6 +29,7 @@ use std::alloc::Global;
 #[inline(always)]
 pub fn act_for(
     alloc: Global,
+    seed: Seed,
     plans: &[Plan],
     past: &PastState,
     batch: Option<NameId>,
@@ -63,14 +65,16 @@ pub fn act_for(
     let action = action_of(alloc, asked, first, time, position)?;
     let name = action.event.name;
     let kind = action.kind;
-    act(alloc, events, &action)?;
+    act(alloc, seed, events, &action)?;
     push(alloc, actions, action)?;
     if past.looks_for(name) {
         let Some(rule) = batch_rule(batch, asked, kind, name) else {
             return Ok(None);
         };
         let rest = literals.as_slice();
-        act_all(alloc, rule, name, rest, time, position, events, actions)?;
+        act_all(
+            alloc, seed, rule, name, rest, time, position, events, actions,
+        )?;
         return Ok(None);
     }
     let plain = plain_rule(asked);
@@ -79,6 +83,7 @@ pub fn act_for(
     };
     let spared = act_on(
         alloc,
+        seed,
         past,
         rule,
         literals.as_slice(),
@@ -101,6 +106,7 @@ pub fn act_for(
 #[inline(always)]
 fn act_on(
     alloc: Global,
+    seed: Seed,
     past: &PastState,
     rule: u32,
     literals: &[Literal],
@@ -122,7 +128,7 @@ fn act_on(
             continue;
         }
         let action = action_of_root(alloc, rule, literal, time, position)?;
-        act(alloc, events, &action)?;
+        act(alloc, seed, events, &action)?;
         push(alloc, actions, action)?;
         if past.looks_for(literal.event.name) {
             return Ok(false);

@@ -14,6 +14,7 @@ use enf_data::event_sets::EventSet;
 use enf_data::events::NameId;
 use enf_data::items::Duplicate;
 use enf_data::memory::NoMemory;
+use enf_data::seeds::Seed;
 use obligations::laws::unread_stays_met;
 use obligations::{Literal, LiteralKind};
 use std::alloc::Global;
@@ -42,6 +43,7 @@ pub fn batch_rule(
 // are taken out together at the end.
 pub fn act_all(
     alloc: Global,
+    seed: Seed,
     rule: u32,
     name: NameId,
     literals: &[Literal],
@@ -55,7 +57,7 @@ pub fn act_all(
 {
     let mut gone = EventSet::new(alloc);
     act_noting(
-        alloc, rule, name, literals, time, position, events, &mut gone, actions,
+        alloc, seed, rule, name, literals, time, position, events, &mut gone, actions,
     )?;
     events.remove_all(&gone);
     Ok(())
@@ -64,6 +66,7 @@ pub fn act_all(
 // Does these actions, and notes the events that go.
 fn act_noting(
     alloc: Global,
+    seed: Seed,
     rule: u32,
     name: NameId,
     literals: &[Literal],
@@ -88,7 +91,7 @@ fn act_noting(
             continue;
         }
         let action = action_of_root(alloc, rule, literal, time, position)?;
-        note(alloc, gone, &literal.event)?;
+        note(alloc, seed, gone, &literal.event)?;
         push(alloc, actions, action)?;
     }
     Ok(())
@@ -113,11 +116,11 @@ fn suppresses(literal: &Literal, name: NameId) -> bool
 }
 
 // Puts an event last among those that go.
-fn note(alloc: Global, gone: &mut EventSet, event: &Event) -> Result<(), NoMemory>
+fn note(alloc: Global, seed: Seed, gone: &mut EventSet, event: &Event) -> Result<(), NoMemory>
     ensures { OnOk result ((Contains gone.old event.now → ⊥) → gone.new ≡ gone.old ++ event.now ∷ []) }
 {
     let copy = event.duplicate(alloc)?;
-    match gone.insert(copy) {
+    match gone.insert_by(seed, copy) {
         Ok(_is_new) => Ok(()),
         Err(_event) => Err(NoMemory),
     }

@@ -274,6 +274,7 @@ fn act_last(
     let rule = rule_of(found.asked);
     let reached = act_for(
         alloc,
+        situation.pending.seed(),
         situation.plans,
         situation.past,
         situation.batches.of_rule(rule),
@@ -364,6 +365,7 @@ fn go_on<'a>(
         let rule = rule_of(first.asked);
         let reached = act_for(
             alloc,
+            situation.pending.seed(),
             situation.plans,
             situation.past,
             situation.batches.of_rule(rule),

@@ -34,6 +34,7 @@ use crate::situation::Situation;
 use enf_data::event_sets::EventSet;
 use enf_data::items::Duplicate;
 use enf_data::memory::NoMemory;
+use enf_data::seeds::Seed;
 use obligations::laws::unwoken_is_idle;
 use obligations::missing_literals::{first_missing, first_missing_of, lack};
 use obligations::plain_plans::is_plain;
@@ -347,14 +348,19 @@ pub fn plain_rule(asked: Asked<'_>) -> Option<u32>
 
 // Adds the event of an action to the step, or takes it out.
 #[inline(always)]
-pub fn act(alloc: Global, events: &mut EventSet, action: &Action) -> Result<(), NoMemory>
+pub fn act(
+    alloc: Global,
+    seed: Seed,
+    events: &mut EventSet,
+    action: &Action,
+) -> Result<(), NoMemory>
     requires { ChangesEvents action.now.kind action.now.event events.old }
     ensures { OnOk result (Applies action.now.kind action.now.event events.old events.new) }
 {
     match action.kind {
         LiteralKind::Cause => {
             let event = action.event.duplicate(alloc)?;
-            match events.insert(event) {
+            match events.insert_by(seed, event) {
                 Ok(_is_new) => Ok(()),
                 Err(_event) => Err(NoMemory),
             }

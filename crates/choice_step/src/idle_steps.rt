@@ -1,12 +1,17 @@
-//! Steps that wake no rule.
-ghost use Rattle.choice_step.specs.machine.Laws.{AsleepBeginsNothing, AsleepDecidesNothing};
+//! Steps at which nothing is awake.
+ghost use Rattle.choice_step.specs.machine.Laws.{AsleepChangesNothing, AsleepComeOfThemselves, AsleepDecidesNothing};
 
-use obligations::laws::unwoken_is_idle;
+use obligations::laws::{pending_exists, unwoken_is_idle};
+use pending::laws::sleepers_stay;
 
-/// Where nothing is pending and no rule is woken by the events of a step, nothing is done there, and nothing is begun.
+/// Where all that is pending sleeps at a step and no rule is woken by its events, nothing is done there, nothing is
+/// begun, and what is pending stays as it is.
 pub fn asleep_is_idle()
     ensures decides { AsleepDecidesNothing }
-    ensures goes { AsleepBeginsNothing }
+    ensures goes { AsleepChangesNothing }
+    ensures leads { AsleepComeOfThemselves }
 {
     unwoken_is_idle();
+    pending_exists();
+    sleepers_stay();
 }

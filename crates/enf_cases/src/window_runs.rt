@@ -7,7 +7,7 @@ use crate::case::CaseError;
 use crate::output::Output;
 use crate::parts::{cut, cut_at, read_interval, read_number, read_variables, word};
 use crate::tables::{are_distinct, print_row_at, print_rows, table_of};
-use enf_data::{Duplicate, Interval, Vars};
+use enf_data::{Duplicate, Interval, Seed, Vars};
 use std::alloc::Global;
 use valuations::Table;
 use windows::{KeptPair, SinceWindow, Surviving};
@@ -102,7 +102,7 @@ fn restore(alloc: Global, form: &Form, last: u64, window: &mut SinceWindow) -> R
 {
     let pairs = window.kept(alloc)?;
     let columns = form.columns.duplicate(alloc)?;
-    *window = SinceWindow::from_kept(alloc, form.interval, columns, last, pairs)?;
+    *window = SinceWindow::from_kept(alloc, Seed::known(), form.interval, columns, last, pairs)?;
     Ok(())
 }
 

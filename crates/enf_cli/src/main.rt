@@ -7,6 +7,7 @@
 mod tests;
 
 use enf_io::adapters::{StdFiles, StdGate, StdSink};
+use enf_io::writing::write_all;
 use enf_run::report_lines::report_ending;
 use enf_run::run::run;
 use enf_run::words::command_words;
@@ -20,5 +21,18 @@ fn main(rt: HostRuntime) -> ExitCode {
         Ok(words) => run(rt.alloc(), &words, &mut gate, &mut files, &mut report),
         Err(ending) => report_ending(&ending, &mut report),
     };
+    // What the report says last is proved; this says more of the fault.
+    if gate.input_would_block() {
+        let _told = write_all(
+            &mut report,
+            b"the log would block: enf reads a stream that waits\n",
+        );
+    }
+    if gate.output_would_block() {
+        let _told = write_all(
+            &mut report,
+            b"the output would block: enf writes to a stream that waits\n",
+        );
+    }
     ExitCode::from(status.code())
 }

@@ -2,6 +2,7 @@
 mod audits;
 mod calm;
 mod checking;
+mod drawing;
 mod examples;
 mod faults;
 mod generating;

@@ -3,3 +3,4 @@ pub mod EventSets
 pub mod StoredEvents
 pub mod ValueTests
 pub mod RowOrders
+pub mod SeededHashes

@@ -13,6 +13,7 @@ ghost use Rattle.enf_data.specs.meaning.Values.{has_event};
 use crate::events::Event;
 use crate::items::Duplicate;
 use crate::memory::NoMemory;
+use crate::seeds::Seed;
 use indexmap::IndexSet;
 use std::alloc::{AllocError, Global};
 use std::marker::Model;
@@ -27,11 +28,13 @@ pub struct EventSet {
 // How many events are searched at most. Above that there is a table.
 const MOST_SEARCHED: usize = 16;
 
+type EventTable = IndexSet<Event, Seed>;
+
 // The events of a set: a few, which are searched, or more, with a table.
 #[derive(Drop)]
 pub(crate) enum Stored {
     Few(Vec<Event>),
-    Many(Box<IndexSet<Event>>),
+    Many(Box<EventTable>),
 }
 
 impl Model for EventSet {
@@ -57,8 +60,9 @@ impl EventSet {
         }
     }
 
-    /// The events of a vector, of each the first. Where they are few and none stands twice, it takes no memory.
-    pub fn from_vec(alloc: Global, events: Vec<Event>) -> Result<EventSet, NoMemory>
+    /// The events of a vector, of each the first. Where they are few and none stands twice, it takes no memory. Of more
+    /// the hashes begin from the seed.
+    pub fn from_vec(alloc: Global, seed: Seed, events: Vec<Event>) -> Result<EventSet, NoMemory>
         ensures { IfOk result (λ set. InsertsEach [] events.items set) }
     {
         if events.len() <= MOST_SEARCHED && are_distinct(events.as_slice()) {
@@ -68,7 +72,7 @@ impl EventSet {
         }
         let mut set = EventSet::new(alloc);
         for event in events {
-            set.insert(event).map_err(|_event| NoMemory)?;
+            set.insert_by(seed, event).map_err(|_event| NoMemory)?;
         }
         Ok(set)
     }
@@ -96,12 +100,24 @@ impl EventSet {
         ensures absent { OnErr result (Contains self.old event → ⊥) }
         ensures distinct { HasNoRepeats self.new }
     {
+        self.insert_by(Seed::known(), event)
+    }
+
+    /// So too, with a seed for hashes, where a stranger chooses the events. It counts as they become many.
+    #[inline(always)]
+    pub fn insert_by(&mut self, seed: Seed, event: Event) -> Result<bool, Event>
+        ensures inserted { IfOk result (λ new. InsertsItem event self.old new self.new) }
+        ensures value_returned { IfErr result (λ back. back ≡ event) }
+        ensures err { OnErr result (self.new ≡ self.old) }
+        ensures absent { OnErr result (Contains self.old event → ⊥) }
+        ensures distinct { HasNoRepeats self.new }
+    {
         match &mut self.events {
             Stored::Many(table) => insert_in_table(table, event),
             Stored::Few(few) if few.len() < MOST_SEARCHED => insert_searched(few, event),
             Stored::Few(few) if is_among(few.as_slice(), &event) => Ok(false),
             Stored::Few(few) => {
-                self.events = Stored::Many(with_table(few, event)?);
+                self.events = Stored::Many(with_table(seed, few, event)?);
                 Ok(true)
             }
         }
@@ -185,14 +201,14 @@ fn are_distinct(events: &[Event]) -> bool
 }
 
 // Whether an event is in a table.
-fn is_in_table(table: &IndexSet<Event>, event: &Event) -> bool
+fn is_in_table(table: &EventTable, event: &Event) -> bool
     ensures { IsTrue result ↔ Contains table.now.keys event.now }
 {
     table.contains(event)
 }
 
 // Puts a new event last in a table, and answers whether it is new.
-fn insert_in_table(table: &mut IndexSet<Event>, event: Event) -> Result<bool, Event>
+fn insert_in_table(table: &mut EventTable, event: Event) -> Result<bool, Event>
     ensures inserted { IfOk result (λ new. InsertsItem event table.old.keys new table.new.keys) }
     ensures value_returned { IfErr result (λ back. back ≡ event) }
     ensures err { OnErr result (table.new.keys ≡ table.old.keys) }
@@ -203,7 +219,7 @@ fn insert_in_table(table: &mut IndexSet<Event>, event: Event) -> Result<bool, Ev
 }
 
 // Takes an event out of a table, and answers whether it was there.
-fn remove_from_table(table: &mut IndexSet<Event>, event: &Event) -> bool
+fn remove_from_table(table: &mut EventTable, event: &Event) -> bool
     ensures removed { RemovesItem event.now table.old.keys result table.new.keys }
     ensures distinct { HasNoRepeats table.new.keys }
 {
@@ -277,7 +293,7 @@ fn keep_searched(few: &mut Vec<Event>, gone: &EventSet)
 }
 
 // Takes the events of a set out of a table, which is gone through once.
-fn keep_in_table(table: &mut IndexSet<Event>, gone: &EventSet)
+fn keep_in_table(table: &mut EventTable, gone: &EventSet)
     ensures removed { table.new.keys ≡ without_events table.old.keys gone.now }
     ensures distinct { HasNoRepeats table.new.keys }
 {
@@ -316,7 +332,7 @@ fn place_of(events: &[Event], event: &Event) -> Option<usize>
 
 // Moves a few events into a table, and puts a new one after them. Where memory runs out, they stay, and the new one
 // comes back.
-fn with_table(few: &mut Vec<Event>, event: Event) -> Result<Box<IndexSet<Event>>, Event>
+fn with_table(seed: Seed, few: &mut Vec<Event>, event: Event) -> Result<Box<EventTable>, Event>
     requires distinct { HasNoRepeats few.old.items }
     requires absent { Contains few.old.items event → ⊥ }
     ensures ok { IfOk result (λ table. table.value.keys ≡ few.old.items ++ event ∷ []) }
@@ -325,7 +341,7 @@ fn with_table(few: &mut Vec<Event>, event: Event) -> Result<Box<IndexSet<Event>>
     ensures err { OnErr result (few.new.items ≡ few.old.items) }
 {
     let alloc = *few.allocator();
-    let Ok(empty) = IndexSet::with_capacity(alloc, few.len() + 1) else {
+    let Ok(empty) = IndexSet::with_capacity_and_hasher(alloc, few.len() + 1, seed) else {
         return Err(event);
     };
     let Ok(mut table) = Box::new(alloc, empty) else {
@@ -339,7 +355,7 @@ fn with_table(few: &mut Vec<Event>, event: Event) -> Result<Box<IndexSet<Event>>
 }
 
 // Puts an event that is not there last, where there is room.
-fn put(table: &mut IndexSet<Event>, event: Event)
+fn put(table: &mut EventTable, event: Event)
     requires room { 0 < spare table.old }
     requires absent { Contains table.old.keys event → ⊥ }
     ensures keys { table.new.keys ≡ table.old.keys ++ event ∷ [] }
@@ -351,11 +367,20 @@ fn put(table: &mut IndexSet<Event>, event: Event)
     }
 }
 
+// The seed of the hashes, where there are some.
+fn seed_of(stored: &Stored) -> Seed {
+    match stored {
+        Stored::Few(_) => Seed::known(),
+        Stored::Many(table) => *table.hasher(),
+    }
+}
+
 impl Duplicate for EventSet {
     fn duplicate(&self, alloc: Global) -> Result<EventSet, NoMemory> {
+        let seed = seed_of(&self.events);
         let mut copy = EventSet::new(alloc);
         for event in self.as_slice() {
-            copy.insert(event.duplicate(alloc)?)
+            copy.insert_by(seed, event.duplicate(alloc)?)
                 .map_err(|_event| NoMemory)?;
         }
         Ok(copy)

@@ -11,6 +11,7 @@ pub mod limits;
 pub mod memory;
 pub mod places;
 pub mod rows;
+pub mod seeds;
 pub mod short_lists;
 pub mod steps;
 pub mod terms;
@@ -28,6 +29,7 @@ pub use limits::{
 pub use memory::NoMemory;
 pub use places::Place;
 pub use rows::Row;
+pub use seeds::{Seed, SeededHasher};
 pub use steps::Step;
 pub use terms::{Term, Terms, VarId, Vars};
 pub use texts::{TextRefusal, TextValue};

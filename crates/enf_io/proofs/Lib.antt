@@ -1,4 +1,5 @@
 pub mod ExchangeLaws
 pub mod Exchanges
 pub mod HeldBytes
+pub mod Interruptions
 pub mod Kept

@@ -1,4 +1,5 @@
 pub mod Adapters
+pub mod FileDraws
 pub mod KeptFiles
 pub mod CalmDevices
 pub mod MemDevices

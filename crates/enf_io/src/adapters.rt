@@ -1,17 +1,20 @@
 //! Gates, sinks and files over the readers, writers and files of std. They tell no bytes, only their counts. Each
-//! call of theirs is one call of the reader, the writer or the files inside: an error of it is handed on and counted.
-//! But a gate holds back what it is given, and hands it on in few calls.
+//! call of theirs is one call of the reader, the writer or the files inside, done again where that was interrupted: an
+//! error of it is handed on and counted. But a gate holds back what it is given, and hands it on in few calls.
 ghost use Rattle.std.specs.Prelude.{◌≡◌, ◌<◌, ◌≤◌, ◌++◌, ℕ, List, [], Option, Err, Ok, IfOk, IfErr, OnErr, length};
-ghost use Rattle.std.specs.Prelude.{drop, IsTrue, IsFalse, ◌+◌};
+ghost use Rattle.std.specs.Prelude.{drop, IsTrue, IsFalse, ◌+◌, ◌↔◌};
+ghost use Rattle.std.specs.Io.{ReadsAtMost, WritesAtMost};
 ghost use Rattle.std.specs.Io.KnownBytes.{append_known, Keeps, ReadConsumes, WriteAppends};
 ghost use Rattle.enf_io.specs.meaning.FileCalls.{faults_after, ReadsFile, WritesFile};
+ghost use Rattle.enf_io.specs.machine.FileDraws.{Draws};
 ghost use Rattle.enf_io.specs.meaning.Exchange.{Stream};
 ghost use Rattle.enf_io.specs.machine.StreamCalls.{Flushes, Reads, Writes, count_taken};
 ghost use Rattle.enf_io.specs.meaning.Files.{FileView};
 ghost use Rattle.enf_io.specs.declared.adapters.TheConstants.{MOST_HELD_BYTES};
 ghost use Rattle.enf_io.specs.machine.Adapters.{AdaptedFiles, AdaptedOutput, AdaptedPair, AsksOpened, GivesPiece};
-ghost use Rattle.enf_io.specs.machine.Adapters.{HandsOn, IsOneCall, adapted, adapted_write, untold_files};
-ghost use Rattle.enf_io.specs.machine.Adapters.{untold_output, untold_pair, with_held};
+ghost use Rattle.enf_io.specs.machine.Adapters.{FlushesHeld, HandsOn, IsOneCall, adapted, adapted_write, flush_answer};
+ghost use Rattle.enf_io.specs.machine.Adapters.{untold_files, untold_output, untold_pair, with_held};
+ghost use Rattle.enf_io.specs.machine.Adapters.{FailsBy, ReadsAgain, WritesAgain};
 
 use crate::devices::{Files, Gate, IoRefusal, Sink};
 use crate::outside::{FileOnce, FilesOnce, ReadOnce, RuntimeFiles, WriteOnce};
@@ -19,12 +22,15 @@ use std::alloc::Global;
 use std::io;
 use std::io::ErrorKind;
 use std::marker::Model;
+use std::random::RandomSource;
 
 /// A sink over a writer. Each write goes to the writer as it comes, so take one that keeps nothing back.
 #[derive(Drop)]
 pub struct StdSink<O: WriteOnce> {
     output: O,
     write_faults: u64,
+    // Whether a write failed where it would have had to wait.
+    would_block: bool,
 }
 
 impl<O: WriteOnce> Model for StdSink<O> {
@@ -40,6 +46,7 @@ impl<O: WriteOnce> StdSink<O> {
         StdSink {
             output,
             write_faults: 0,
+            would_block: false,
         }
     }
 }
@@ -49,12 +56,14 @@ impl<O: WriteOnce> Sink for StdSink<O> {
 
     #[inline(always)]
     fn write(&mut self, bytes: &[u8]) -> Result<usize, IoRefusal>
-        ensures once { IsOneCall (λ answer. O.write_gives self.old.writer bytes.now answer self.new.writer)
+        ensures once { IsOneCall
+            (λ answer. WritesAgain O.write_gives self.old.writer bytes.now answer self.new.writer)
             (adapted_write bytes.now) result }
         ensures bytes { WriteAppends (O.held self.old.writer) (O.held self.new.writer) result bytes.now }
         ensures seen { Writes bytes.now result (untold_output self.old) (untold_output self.new) }
     {
-        let answer = self.output.write_once(bytes);
+        let answer = write_again(&mut self.output, bytes);
+        self.would_block |= fails_by(ErrorKind::WouldBlock, &answer);
         counted(some_of(bytes, answer), &mut self.write_faults)
     }
 }
@@ -69,6 +78,8 @@ pub const MOST_HELD_BYTES: usize = 65_536;
 pub struct StdGate<I: ReadOnce, O: WriteOnce> {
     input: I,
     read_faults: u64,
+    // Whether a read failed where it would have had to wait.
+    would_block: bool,
     output: StdSink<O>,
     held: Vec<u8>,
     // At how many reads something was held back.
@@ -100,18 +111,29 @@ impl<I: ReadOnce, O: WriteOnce> StdGate<I, O> {
         StdGate {
             input,
             read_faults: 0,
+            would_block: false,
             output: StdSink::new(output),
             held: Vec::new(alloc),
             late_reads: 0,
         }
+    }
+
+    /// Whether a read failed where it would have had to wait.
+    pub fn input_would_block(&self) -> bool {
+        self.would_block
+    }
+
+    /// Whether a write failed where it would have had to wait.
+    pub fn output_would_block(&self) -> bool {
+        self.output.would_block
     }
 }
 
 impl<I: ReadOnce, O: WriteOnce> Gate for StdGate<I, O> {
     fn read(&mut self, buf: &mut [u8]) -> Result<usize, IoRefusal>
         requires { 0 < length buf.old }
-        ensures once { IsOneCall (λ answer. I.read_gives self.old.reader buf.new answer self.new.reader)
-            adapted result }
+        ensures once { IsOneCall
+            (λ answer. ReadsAgain I.read_gives self.old.reader buf.new answer self.new.reader) adapted result }
         ensures bytes { ReadConsumes (I.left self.old.reader) (I.left self.new.reader) result buf.new }
         ensures output { self.new.output ≡ self.old.output }
         ensures held { self.new.held ≡ self.old.held }
@@ -120,18 +142,20 @@ impl<I: ReadOnce, O: WriteOnce> Gate for StdGate<I, O> {
         if !self.held.is_empty() {
             self.late_reads = self.late_reads.saturating_add(1);
         }
-        let answer = self.input.read_once(buf);
+        let answer = read_again(&mut self.input, buf);
+        self.would_block |= fails_by(ErrorKind::WouldBlock, &answer);
         counted(answer, &mut self.read_faults)
     }
 
     fn flush(&mut self) -> Result<(), IoRefusal>
-        ensures calls { HandsOn O.write_gives result self.old.held self.new.held
+        ensures calls { FlushesHeld (WritesAgain O.write_gives) result self.old.held self.new.held
             self.old.output.writer self.new.output.writer }
         ensures bytes { Keeps (with_held O.held self.old) (with_held O.held self.new) }
         ensures reader { self.new.reader ≡ self.old.reader }
         ensures seen { Flushes result (untold_pair self.old) (untold_pair self.new) }
     {
-        hand_on(&mut self.output, &mut self.held)
+        let handed = hand_on(&mut self.output, &mut self.held);
+        flushed(handed, &mut self.output)
     }
 }
 
@@ -140,7 +164,7 @@ impl<I: ReadOnce, O: WriteOnce> Sink for StdGate<I, O> {
 
     #[inline(always)]
     fn write(&mut self, bytes: &[u8]) -> Result<usize, IoRefusal>
-        ensures calls { GivesPiece O.write_gives bytes.now result self.old.held self.new.held
+        ensures calls { GivesPiece (WritesAgain O.write_gives) bytes.now result self.old.held self.new.held
             self.old.output.writer self.new.output.writer }
         ensures bytes { WriteAppends (with_held O.held self.old) (with_held O.held self.new) result bytes.now }
         ensures few { length self.new.held ≤ MOST_HELD_BYTES }
@@ -173,7 +197,7 @@ fn write_on<O: WriteOnce>(
     held: &mut Vec<u8>,
 ) -> Result<usize, IoRefusal>
     requires { length held.old.items ≤ MOST_HELD_BYTES }
-    ensures calls { GivesPiece O.write_gives bytes.now result held.old.items held.new.items
+    ensures calls { GivesPiece (WritesAgain O.write_gives) bytes.now result held.old.items held.new.items
         output.old.writer output.new.writer }
     ensures bytes { WriteAppends (append_known (O.held output.old.writer) held.old.items)
         (append_known (O.held output.new.writer) held.new.items) result bytes.now }
@@ -192,7 +216,8 @@ fn write_on<O: WriteOnce>(
 
 // Hands on what is held back, in as many turns as the writer needs.
 fn hand_on<O: WriteOnce>(output: &mut StdSink<O>, held: &mut Vec<u8>) -> Result<(), IoRefusal>
-    ensures calls { HandsOn O.write_gives result held.old.items held.new.items output.old.writer output.new.writer }
+    ensures calls { HandsOn (WritesAgain O.write_gives) result held.old.items held.new.items
+        output.old.writer output.new.writer }
     ensures bytes { Keeps (append_known (O.held output.old.writer) held.old.items)
         (append_known (O.held output.new.writer) held.new.items) }
     ensures some_left { OnErr result (0 < length held.new.items) }
@@ -211,6 +236,27 @@ fn hand_on<O: WriteOnce>(output: &mut StdSink<O>, held: &mut Vec<u8>) -> Result<
     }
     held.clear();
     Ok(())
+}
+
+// Answers a flush. Of what was held back some is not handed on at a refusal, whatever the cause: so each is a fault of
+// the flush, and want of memory, which was not counted as one, is counted here.
+fn flushed<O: WriteOnce>(
+    handed: Result<(), IoRefusal>,
+    output: &mut StdSink<O>,
+) -> Result<(), IoRefusal>
+    ensures told { result ≡ flush_answer handed }
+    ensures writer { output.new.writer ≡ output.old.writer }
+    ensures counted { (before : ℕ) → output.old.write_faults ≡ faults_after handed before →
+        output.new.write_faults ≡ faults_after result before }
+{
+    match handed {
+        Ok(()) => Ok(()),
+        Err(IoRefusal::Failed) => Err(IoRefusal::Failed),
+        Err(IoRefusal::NoMemory) => {
+            output.write_faults = output.write_faults.saturating_add(1);
+            Err(IoRefusal::Failed)
+        }
+    }
 }
 
 // Lets the first bytes go.
@@ -241,7 +287,7 @@ impl<F: FilesOnce> Model for AdaptedFiles<F> {
     ghost view = { λ f. record { files = f.files; read_faults = f.read_faults; write_faults = f.write_faults } };
 }
 
-impl<'a, R: std::rt::Files + AllocGlobal> AdaptedFiles<RuntimeFiles<'a, R>> {
+impl<'a, R: std::rt::Files + RandomSource + AllocGlobal> AdaptedFiles<RuntimeFiles<'a, R>> {
     pub fn new(rt: &'a R) -> StdFiles<'a, R>
         ensures { result ≡ record { files = record { rt = rt.entry }; read_faults = 0; write_faults = 0 } }
     {
@@ -266,6 +312,16 @@ impl<F: FilesOnce> Files for AdaptedFiles<F> {
         ensures seen { ReadsFile name.now most result (untold_files self.old) (untold_files self.new) }
     {
         let answer = read_front(&mut self.files, self.alloc, name, most);
+        counted(answer, &mut self.read_faults)
+    }
+
+    fn draw(&mut self, _name: &str) -> Result<u64, IoRefusal>
+        ensures once { IsOneCall (λ answer. F.draw_gives self.old.files answer self.new.files) adapted result }
+        ensures reads { self.new.read_faults ≡ faults_after result self.old.read_faults }
+        ensures writes { self.new.write_faults ≡ self.old.write_faults }
+        ensures seen { Draws _name.now result (untold_files self.old) (untold_files self.new) }
+    {
+        let answer = self.files.draw_once();
         counted(answer, &mut self.read_faults)
     }
 
@@ -305,6 +361,49 @@ fn write_whole<F: FilesOnce>(files: &mut F, name: &str, bytes: &[u8]) -> io::Res
     match files.create_once(name) {
         Ok(mut file) => file.write_all_once(bytes),
         Err(error) => Err(error),
+    }
+}
+
+/// How often a call that was interrupted is done again at most.
+pub const MOST_INTERRUPTS: u64 = u64::MAX;
+
+// Reads, and again where the call was interrupted.
+fn read_again<I: ReadOnce>(input: &mut I, buf: &mut [u8]) -> io::Result<usize>
+    ensures bound { ReadsAtMost result buf.new }
+    ensures bytes { ReadConsumes (I.left input.old) (I.left input.new) result buf.new }
+    ensures once { ReadsAgain I.read_gives input.old buf.new result input.new }
+{
+    for _count in 0..MOST_INTERRUPTS {
+        let answer = input.read_once(buf);
+        if !fails_by(ErrorKind::Interrupted, &answer) {
+            return answer;
+        }
+    }
+    input.read_once(buf)
+}
+
+// Writes, and again where the call was interrupted.
+fn write_again<O: WriteOnce>(output: &mut O, bytes: &[u8]) -> io::Result<usize>
+    ensures bound { WritesAtMost result bytes.now }
+    ensures bytes { WriteAppends (O.held output.old) (O.held output.new) result bytes.now }
+    ensures once { WritesAgain O.write_gives output.old bytes.now result output.new }
+{
+    for _count in 0..MOST_INTERRUPTS {
+        let answer = output.write_once(bytes);
+        if !fails_by(ErrorKind::Interrupted, &answer) {
+            return answer;
+        }
+    }
+    output.write_once(bytes)
+}
+
+// Whether a call answers with an error of this kind.
+fn fails_by(kind: ErrorKind, answer: &io::Result<usize>) -> bool
+    ensures { IsTrue result ↔ FailsBy kind answer.now }
+{
+    match answer {
+        Ok(_) => false,
+        Err(error) => error.kind() == kind,
     }
 }
 

@@ -1,6 +1,6 @@
 //! Files over memory.
 ghost use Rattle.std.specs.Prelude.{◌≡◌, ◌≢◌, ◌++◌, ◌∷◌, OnOk, OnErr, IfErr, IfOk, IsErrOf, List};
-ghost use Rattle.std.specs.Prelude.{[], ℕ, map, string_bytes};
+ghost use Rattle.std.specs.Prelude.{[], ℕ, Ok, map, string_bytes};
 ghost use Rattle.enf_io.specs.meaning.Files.{NoFile, FileBytes, with_contents, FileView};
 ghost use Rattle.enf_io.specs.meaning.FileCalls.{GivesContents, ReadsFile, WritesFile};
 ghost use Rattle.enf_io.specs.machine.CalmDevices.{CalmContents, calm_files, contents_under};
@@ -78,6 +78,13 @@ impl Files for CalmFiles {
                 Err(IoRefusal::Failed)
             }
         }
+    }
+
+    fn draw(&mut self, _name: &str) -> Result<u64, IoRefusal>
+        ensures told { result ≡ Ok 0 }
+        ensures same { self.new ≡ self.old }
+    {
+        Ok(0)
     }
 
     fn write(&mut self, name: &str, bytes: &[u8]) -> Result<(), IoRefusal>

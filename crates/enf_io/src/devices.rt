@@ -4,6 +4,7 @@ ghost use Rattle.enf_io.specs.meaning.Exchange.{Stream};
 ghost use Rattle.enf_io.specs.machine.StreamCalls.{Flushes, Reads, Writes};
 ghost use Rattle.enf_io.specs.meaning.Files.{FileView};
 ghost use Rattle.enf_io.specs.meaning.FileCalls.{ReadsFile, WritesFile};
+ghost use Rattle.enf_io.specs.machine.FileDraws.{Draws};
 
 use std::alloc::{AllocError, AllocFailed};
 
@@ -76,7 +77,7 @@ pub trait Gate: Sink {
         requires { 0 < length buf.old }
         ensures { Reads buf.new result (Self.seen self.old) (Self.seen self.new) };
 
-    /// Hands on what is held back of the bytes given.
+    /// Hands on what is held back of the bytes given. Where that fails, for want of memory too, it is a fault.
     fn flush(&mut self) -> Result<(), IoRefusal>
         ensures { Flushes result (Self.seen self.old) (Self.seen self.new) };
 }
@@ -88,6 +89,11 @@ pub trait Files {
     /// The contents under a name, or their first `most` bytes where there are more. A missing file is a fault.
     fn read(&mut self, name: &str, most: usize) -> Result<Vec<u8>, IoRefusal>
         ensures { ReadsFile name.now most result (seen self.old) (seen self.new) };
+
+    /// A number that nobody outside knows, for what is to be done with what the name gave; devices over memory tell 0.
+    /// A draw that fails is a fault at a read under the name.
+    fn draw(&mut self, name: &str) -> Result<u64, IoRefusal>
+        ensures { Draws name.now result (seen self.old) (seen self.new) };
 
     /// Makes these bytes the contents under a name.
     fn write(&mut self, name: &str, bytes: &[u8]) -> Result<(), IoRefusal>

@@ -1,6 +1,6 @@
 //! Files over memory of which some calls fail.
 ghost use Rattle.std.specs.Prelude.{◌≡◌, ◌≢◌, ◌==◌, OnOk, OnErr, IfOk, IsErrOf, List, [], None, Some};
-ghost use Rattle.std.specs.Prelude.{ℕ, true, false};
+ghost use Rattle.std.specs.Prelude.{ℕ, Ok, true, false};
 ghost use Rattle.std.specs.List.{list_any};
 ghost use Rattle.enf_io.specs.meaning.FileCalls.{faults_after, ReadsFile, WritesFile};
 ghost use Rattle.enf_io.specs.meaning.Files.{one_more, FileBytes, with_contents, FileView};
@@ -97,6 +97,13 @@ impl Files for MemFiles {
         }
         self.read_faults = self.read_faults.saturating_add(1);
         Err(IoRefusal::Failed)
+    }
+
+    fn draw(&mut self, _name: &str) -> Result<u64, IoRefusal>
+        ensures told { result ≡ Ok 0 }
+        ensures same { self.new ≡ self.old }
+    {
+        Ok(0)
     }
 
     fn write(&mut self, name: &str, bytes: &[u8]) -> Result<(), IoRefusal>

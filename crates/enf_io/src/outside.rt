@@ -11,6 +11,7 @@ ghost use Rattle.std.specs.declared.io.Error.{Error};
 
 use std::alloc::Global;
 use std::io::{Read, Write};
+use std::random::RandomSource;
 use std::{fs, io};
 
 /// A reader whose calls are told apart. Each reader of std is one.
@@ -105,6 +106,8 @@ pub trait FilesOnce {
 
     ghost create_gives: { Self → List ℕ → Result Self.File Error → Self → Type 0 };
 
+    ghost draw_gives: { Self → Result ℕ Error → Self → Type 0 };
+
     /// As `fs::open`, called once.
     fn open_once(&mut self, name: &str) -> io::Result<Self::File>
         ensures once { open_gives self.old name.now result self.new };
@@ -112,6 +115,10 @@ pub trait FilesOnce {
     /// As `fs::create`, called once.
     fn create_once(&mut self, name: &str) -> io::Result<Self::File>
         ensures once { create_gives self.old name.now result self.new };
+
+    /// A number from the system's source of random ones, by one call.
+    fn draw_once(&mut self) -> io::Result<u64>
+        ensures once { draw_gives self.old result self.new };
 }
 
 /// The files of a runtime.
@@ -120,12 +127,14 @@ pub struct RuntimeFiles<'a, R> {
     pub(crate) rt: &'a R,
 }
 
-impl<'a, R: std::rt::Files> FilesOnce for RuntimeFiles<'a, R> {
+impl<'a, R: std::rt::Files + RandomSource> FilesOnce for RuntimeFiles<'a, R> {
     type File = R::File;
 
     ghost open_gives = { λ before name answer after. ⊤ };
 
     ghost create_gives = { λ before name answer after. ⊤ };
+
+    ghost draw_gives = { λ before answer after. ⊤ };
 
     fn open_once(&mut self, name: &str) -> io::Result<R::File> {
         fs::open(self.rt, name)
@@ -133,5 +142,11 @@ impl<'a, R: std::rt::Files> FilesOnce for RuntimeFiles<'a, R> {
 
     fn create_once(&mut self, name: &str) -> io::Result<R::File> {
         fs::create(self.rt, name)
+    }
+
+    fn draw_once(&mut self) -> io::Result<u64> {
+        let mut bytes = [0; 8];
+        self.rt.fill_bytes(&mut bytes)?;
+        Ok(u64::from_le_bytes(bytes))
     }
 }

@@ -1,16 +1,14 @@
 -- How far a drill has come, one step more, and what is found at its end.
-use Rattle.enf_run.proofs.Vocabulary.{◌≡◌, ℕ, zero, suc, ◌+◌, ◌*◌, ◌^◌, ◌≤◌, List, [], ◌∷◌, ◌++◌, length, map, refl, sym, ap, subst, ◌∙◌, inl, arith, cond, false, IfOk, Result, Ok, Err, Option, None}
+use Rattle.enf_run.proofs.Vocabulary.{◌≡◌, ℕ, zero, suc, ◌+◌, ◌*◌, ◌^◌, ◌≤◌, List, [], ◌∷◌, ◌++◌, length, map, refl, sym, ap, subst, ◌∙◌, arith, cond, false, IfOk, Result, Ok, Err, Option, None}
 use Rattle.enf_run.proofs.Vocabulary.{Some, sum_by-append, ActedStep, is_inserted, steps_of, FollowsDrain, AreDistinct, Formula, HasNoRepeats, Step, StoredTyped, typed_of, Course, Enforcing}
-use Rattle.enf_run.proofs.Vocabulary.{policy_plans, enforcer_plans, acted_steps, FollowsToEnd, policy_operators as stored_operators, Gave, Stream, WritesAll, WriteRefusal, AnswersStep, Progress}
+use Rattle.enf_run.proofs.Vocabulary.{policy_plans, enforcer_plans, acted_steps, FollowsToEnd, policy_operators as stored_operators, AnswersStep, Progress}
 use Rattle.enf_run.proofs.Vocabulary.{drawn_events, event_count, first_draw, generated, generated_records, generated_step, sample_entries, sample_rules, early, records_more, BoundFormula, tree_in}
-use Rattle.enf_run.proofs.Vocabulary.{all_operators, guards_of, IsSnapshotOf, Record, StepRecord, clock_after, TallyAtMost, CutsDrill, FinishesDrill, IsNewDrill, TakesCounted, tally_with}
-use Rattle.enf_run.proofs.Vocabulary.{SampleDrillFinds, SaysDrillLine, causes_in, drill_line, is_system, guard_operators, suppressions_in, tally_of, cut_after, all_formulas, EnforcerLaws, AddsPart}
+use Rattle.enf_run.proofs.Vocabulary.{all_operators, guards_of, IsSnapshotOf, Record, StepRecord, clock_after, TallyAtMost, FinishesDrill, IsNewDrill, TakesCounted, tally_with}
+use Rattle.enf_run.proofs.Vocabulary.{SampleDrillFinds, causes_in, is_system, guard_operators, suppressions_in, tally_of, all_formulas, EnforcerLaws}
 use Rattle.enf_run.proofs.Vocabulary.{Drilled, Tally}
 use Rattle.enf_run.specs.declared.drills.Drill.{Drill}
 use Rattle.enf_run.proofs.LogLemmas.{put_all_distinct}
 use Rattle.enf_run.proofs.LogProgressLemmas.{none_else}
-use Rattle.enf_run.proofs.TextLemmas.{written_cut}
-use Rattle.enf_io.specs.declared.writing.WriteRefusal.TheVariants as writes
 
 -- ---- counts
 
@@ -148,21 +146,6 @@ module _ (laws : EnforcerLaws) (start : ℕ) (drill : Drill) (new : IsNewDrill d
         kept = f.kept;
         pending = f.pending;
       }
-
--- ---- the line
-
-module _ (start steps : ℕ) (found : Drilled) (finds : SampleDrillFinds start steps found) (bytes : List ℕ) (same : bytes ≡ drill_line found) (a b : Stream) where
-  -- it was given whole
-  pub says_whole : Gave bytes a.told b.told → SaysDrillLine Gave start steps a.told b.told
-  says_whole gave = record { found = found; finds = finds; given = subst (λ (text : List ℕ). Gave text a.told b.told) same gave }
-
-  -- or a part of it
-  pub says_cut : (why : WriteRefusal) → WritesAll {T = Unit {0}} bytes (Err why) a b → CutsDrill start steps a.told b.told (cut_after why)
-  says_cut why w = by why (subst (λ (text : List ℕ). AddsPart text a.told b.told) same (written_cut bytes why a b w).adds)
-    where
-      by : (why : WriteRefusal) → AddsPart (drill_line found) a.told b.told → CutsDrill start steps a.told b.told (cut_after why)
-      by (writes.WriteFault written) part = record { found = found; finds = finds; given = part }
-      by (writes.NoMemory written) part = inl (record { found = found; finds = finds; given = part })
 
 -- ---- the end of the run
 

@@ -1,6 +1,6 @@
 -- What a read of a file tells, where it asks for one byte more than the file may have, and the formulas of a policy.
 use Rattle.enf_run.proofs.Vocabulary.{◌≡◌, ℕ, ◌+◌, ◌<◌, ◌≤◌, List, [], ◌∷◌, length, map, refl, ap, ◌∙◌, arith, length-take, Option, None, Some, IfSome, Result, Err, take_all, Vec, Global, Formula}
-use Rattle.enf_run.proofs.Vocabulary.{tree_of, stored_rule_formulas as read_formulas, rule_of, Contents, NoFile, FileBytes, FileView, GivesContents, faults_after, CountsFor, ReadsFile, IoRefusal}
+use Rattle.enf_run.proofs.Vocabulary.{tree_of, stored_rule_formulas as read_formulas, rule_of, Contents, Draws, NoFile, FileBytes, FileView, GivesContents, faults_after, CountsFor, ReadsFile, IoRefusal}
 use Rattle.enf_run.proofs.Vocabulary.{Failed, NoMemory, AreBytesHeld, IsLongFile, IsFileNotRead, IsShortFile, all_formulas}
 use Rattle.formula_reader.specs.declared.policies.Rule.{Rule}
 
@@ -49,3 +49,8 @@ same_files name most result before after r none =
 pub is_not_read : (most : ℕ) (name : List ℕ) (refusal : IoRefusal) (before after : FileView) → ReadsFile name (most + 1) (Err refusal) before after → IsFileNotRead most name before after refusal
 is_not_read most name Failed before after r = r
 is_not_read most name NoMemory before after r = same_files name (most + 1) (Err NoMemory) before after r (λ n. refl)
+
+-- a draw that was refused counts as a read that was
+pub not_drawn : {T : Type 0} (most : ℕ) (name : List ℕ) (refusal : IoRefusal) (before after : FileView) → Draws {T = T} name (Err refusal) before after → IsFileNotRead most name before after refusal
+not_drawn most name Failed before after d = d.failed refl (most + 1)
+not_drawn most name NoMemory before after d = d.no_memory refl

@@ -1,8 +1,8 @@
 -- What a gate is given is the same once what it held back is handed on: how the run of a log ends, before that and after.
-use Rattle.enf_run.proofs.Vocabulary.{◌≡◌, ℕ, ◌<◌, List, [], refl, sym, ap, subst, ◌∙◌, inl, inr, Option, Err, Ok, Exchange, Stream, Gave, one_more, none_more, ActedStep, Record, Enforcing, UpToDate}
-use Rattle.enf_run.proofs.Vocabulary.{LogSetting, reading_of, Exchanged, Seen, seen_of, AnyExchange, HasWriteFault, IsOwedWhere, LostLog, RunsLogFor, RunsShort, StopsShort, TookLog, CutsRun, RanSo}
-use Rattle.enf_run.proofs.Vocabulary.{IsOwedAtEnd, LogEndsAs, LogReading, TakenLog, taken_log, taken_log_of, HandsOver, Cut, Judged, Verdict, Intake, AnswersRead, CutsPiece, EndsIntake, GetsPiece}
-use Rattle.enf_run.proofs.Vocabulary.{IoRefusal, cut_after_file, LosesPiece, ReadMeetsEnd, Took, TookNothing, TakesBytes, takeable_bytes, ReadsLog, IsOwedSoFar, IsOwedInAll}
+use Rattle.enf_run.proofs.Vocabulary.{◌≡◌, ℕ, List, [], refl, sym, ap, subst, ◌∙◌, inl, inr, Option, Err, Ok, Exchange, Stream, Gave, one_more, none_more, ActedStep, Record, Enforcing, UpToDate}
+use Rattle.enf_run.proofs.Vocabulary.{LogSetting, reading_of, Exchanged, Seen, seen_of, AnyExchange, IsOwedWhere, LostLog, RunsLogFor, StopsShort, TookLog, CutsRun, RanSo}
+use Rattle.enf_run.proofs.Vocabulary.{IsOwedAtEnd, LogEndsAs, LogReading, TakenLog, taken_log, FlushesGate, Cut, Judged, Verdict, Intake, AnswersRead, CutsPiece, EndsIntake}
+use Rattle.enf_run.proofs.Vocabulary.{IoRefusal, cut_after_file, LosesPiece, ReadMeetsEnd, Took, TookNothing, TakesBytes, takeable_bytes, ReadsLog}
 use Rattle.std.specs.Prelude.{Bool, None, Some, Result, IfOk, IfErr, OnOk}
 use Rattle.enf_io.specs.machine.StreamCalls.{Flushes}
 use Rattle.enf_run.proofs.ExchangeLemmas.{gave_none}
@@ -14,9 +14,9 @@ use Rattle.enf_run.specs.declared.endings.Cut.TheVariants as cuts
 -- ---- a flush
 
 -- what a flush that is refused does to the gate, as what cuts the work
-pub flush_cut : (why : IoRefusal) (a b : Stream) → Flushes {T = Unit {0}} (Err why) a b → HandsOver {T = Unit {0}} (Err (cut_after_file why)) a b
-flush_cut io.Failed a b f = record { told = f.told; whole = tt; some_left = f.some_left; writes = f.writes; reads = f.reads; late = f.late }
-flush_cut io.NoMemory a b f = record { told = f.told; whole = tt; some_left = f.some_left; writes = f.writes; reads = f.reads; late = f.late }
+pub flush_cut : (why : IoRefusal) (a b : Stream) → Flushes {T = Unit {0}} (Err why) a b → FlushesGate {T = Unit {0}} (Err (cut_after_file why)) a b
+flush_cut io.Failed a b f = record { told = f.told; whole = tt; some_left = f.some_left; failed = refl; writes = f.writes; reads = f.reads; late = f.late }
+flush_cut io.NoMemory a b f = let wrong : ◌≡◌ {A = IoRefusal} io.NoMemory io.Failed = f.failed in absurd cc
 
 -- ---- the end of a log
 
@@ -48,12 +48,12 @@ module _ (before b : Seen) (c : Stream) where
       }
 
   pub ran_handed : (left : Bool) (s : LogSetting) (judged : Judged) (enforcer : Enforcing) → RanSo left s judged enforcer before b
-      → HandsOver {T = Unit {0}} (Ok tt) b.gate c → RanSo left s judged enforcer before after
+      → FlushesGate {T = Unit {0}} (Ok tt) b.gate c → RanSo left s judged enforcer before after
   unfolding runs_handed
   ran_handed left s judged enforcer x h =
       record { ran = runs_handed (IsOwedAtEnd left s) s judged.verdict x.ran h.told h.reads h.writes; count = x.count; behind = x.behind }
 
-  pub took_handed : (r : LogReading) (judged : Judged) → TookLog r judged before b → HandsOver {T = Unit {0}} (Ok tt) b.gate c → TookLog r judged before after
+  pub took_handed : (r : LogReading) (judged : Judged) → TookLog r judged before b → FlushesGate {T = Unit {0}} (Ok tt) b.gate c → TookLog r judged before after
   took_handed r judged t h =
       let log = t.whole.log in
       record {
@@ -86,17 +86,17 @@ module _ (before b : Seen) (c : Stream) where
       }
 
   -- it was not handed on, after a log that was taken
-  pub took_held : (r : LogReading) (judged : Judged) → TookLog r judged before b → (cut : Cut) → HandsOver {T = Unit {0}} (Err cut) b.gate c → LostLog r before after cut
+  pub took_held : (r : LogReading) (judged : Judged) → TookLog r judged before b → (cut : Cut) → FlushesGate {T = Unit {0}} (Err cut) b.gate c → LostLog r before after cut
   took_held r judged t cuts.WriteFault h =
       record { log = log_handed r t.whole.log h.told; fault = inl (h.writes ∙ ap one_more t.writes, t.report.writes) }
   took_held r judged t cuts.NoMemory h = record { log = log_handed r t.whole.log h.told; fault = (h.writes ∙ t.writes, t.report.writes) }
 
   -- or after memory ran out
-  pub lost_held : (r : LogReading) → LostLog r before b cuts.NoMemory → (cut : Cut) → HandsOver {T = Unit {0}} (Err cut) b.gate c → LostLog r before after cut
+  pub lost_held : (r : LogReading) → LostLog r before b cuts.NoMemory → (cut : Cut) → FlushesGate {T = Unit {0}} (Err cut) b.gate c → LostLog r before after cut
   lost_held r l cuts.WriteFault h = record { log = log_handed r l.log h.told; fault = inl (h.writes ∙ ap one_more l.fault.0, l.fault.1) }
   lost_held r l cuts.NoMemory h = record { log = log_handed r l.log h.told; fault = (h.writes ∙ l.fault.0, l.fault.1) }
 
-  pub lost_handed : (r : LogReading) → LostLog r before b cuts.NoMemory → HandsOver {T = Unit {0}} (Ok tt) b.gate c → LostLog r before after cuts.NoMemory
+  pub lost_handed : (r : LogReading) → LostLog r before b cuts.NoMemory → FlushesGate {T = Unit {0}} (Ok tt) b.gate c → LostLog r before after cuts.NoMemory
   lost_handed r l h = record { log = log_handed r l.log h.told; fault = (h.writes ∙ l.fault.0, l.fault.1) }
 
   owed_handed : (s : LogSetting) (t : TakenLog) (out : List ActedStep) → c.told ≡ b.gate.told → c.read_faults ≡ b.gate.read_faults
@@ -130,10 +130,10 @@ module _ (before b : Seen) (c : Stream) where
         actions = x.actions;
       }
 
-  pub stops_handed : (s : LogSetting) → CutsRun s before b cuts.NoMemory → HandsOver {T = Unit {0}} (Ok tt) b.gate c → CutsRun s before after cuts.NoMemory
+  pub stops_handed : (s : LogSetting) → CutsRun s before b cuts.NoMemory → FlushesGate {T = Unit {0}} (Ok tt) b.gate c → CutsRun s before after cuts.NoMemory
   stops_handed s x h = stops_so none_more s x h.told h.reads h.writes
 
-  pub stops_held : (s : LogSetting) → CutsRun s before b cuts.NoMemory → (cut : Cut) → HandsOver {T = Unit {0}} (Err cut) b.gate c → CutsRun s before after cut
+  pub stops_held : (s : LogSetting) → CutsRun s before b cuts.NoMemory → (cut : Cut) → FlushesGate {T = Unit {0}} (Err cut) b.gate c → CutsRun s before after cut
   stops_held s x cuts.WriteFault h = inr (inr (stops_so one_more s x h.told h.reads h.writes, h.some_left))
   stops_held s x cuts.NoMemory h = stops_so none_more s x h.told h.reads h.writes
 
@@ -163,7 +163,7 @@ module _ (a b c : Stream) (told : b.told ≡ a.told) (reads : b.read_faults ≡ 
       }
   read_handed old new (Some verdict) g = (g.0, ends_read old.reader.rest old.taken verdict g.1)
 
-pub piece_held : (left : ℕ) (a b : Stream) (cut : Cut) → HandsOver {T = Unit {0}} (Err cut) a b → CutsPiece left a b cut
+pub piece_held : (left : ℕ) (a b : Stream) (cut : Cut) → FlushesGate {T = Unit {0}} (Err cut) a b → CutsPiece left a b cut
 piece_held left a b cuts.WriteFault h = (h.told, h.some_left, h.writes, h.reads)
 piece_held left a b cuts.NoMemory h = ((inl h.told, h.reads), h.writes)
 

@@ -224,10 +224,13 @@ module _ {Gate : Type 0} (call : Call Gate) where
     reads_of statuses.NoMemory (inr o) = reads_met o.between o.why o.meets
     reads_of statuses.Violated o = reads_met o.between o.why o.meets
 
+    -- the report gave this text, where it tells
+    abbrev HasSaid : List ℕ → Type 0
+    HasSaid text = OfCalls (λ said. said.given ≡ text) call.before.report.told call.after.report.told
+
     abbrev AtEnd : Status → Type 0
-    AtEnd result = OfCalls (λ log. OfCalls (λ said. IsKeptToEnd entries rules start call.before.gate
-        call.after.gate result (taken_bytes log) log.given said.given) call.before.report.told
-        call.after.report.told) call.before.gate.told call.after.gate.told
+    AtEnd result = OfCalls (λ log. IsKeptToEnd entries rules start call.before.gate call.after.gate result
+        (taken_bytes log) log.given HasSaid) call.before.gate.told call.after.gate.told
 
     -- a log that was run is kept, where the report was so after it
     kept : (report : Stream) (verdict : Verdict) (last : List ℕ)
@@ -240,13 +243,9 @@ module _ {Gate : Type 0} (call : Call Gate) where
         (gave_more (action_lines entries rules a.out) last call.before.report.told report.told
         call.after.report.told mine.ran.actions.gave gave) in
         OfCalls-weaker (IsExchange (UpToDate s) mine.ran.taken mine.ran.given)
-        (λ log. OfCalls (λ said. IsKeptToEnd entries rules start call.before.gate call.after.gate
-        (status_after verdict) (taken_bytes log) log.given said.given) call.before.report.told
-        call.after.report.told) call.before.gate.told call.after.gate.told
-        (λ log exchange. OfCalls-weaker (λ said. said.given ≡ text)
-        (λ said. IsKeptToEnd entries rules start call.before.gate call.after.gate (status_after verdict)
-        (taken_bytes log) log.given said.given) call.before.report.told call.after.report.told
-        (λ said is. record {
+        (λ log. IsKeptToEnd entries rules start call.before.gate call.after.gate (status_after verdict)
+        (taken_bytes log) log.given HasSaid) call.before.gate.told call.after.gate.told
+        (λ log exchange. record {
           answered = record {
             read = a.read;
             rest = mine.ran.rest;
@@ -262,9 +261,9 @@ module _ {Gate : Type 0} (call : Call Gate) where
               (subst (λ (b : List ℕ). LogEndsAs (taken_log_of s a.read b mine.ran.rest) call.before.gate call.after.gate verdict) (sym exchange.took) mine.ran.ends) mine.line;
           is_trace = a.owed.is_trace;
           satisfied = a.owed.satisfied;
-          reported = is;
+          reported = of_report;
           alone = a.owed.alone;
-        }) of_report) mine.ran.exchanged.calls
+        }) mine.ran.exchanged.calls
 
     -- a log was run, and so many records of it were accepted
     abbrev Counted : Judged → Stream → LogSetting → Type 0
@@ -341,11 +340,11 @@ module _ {Gate : Type 0} (call : Call Gate) where
       pub written : WritesFile {T = Unit {0}} file state (Ok tt) call.before.files call.after.files
 
     module _ (file : List ℕ) (named : states.saved ≡ Some file) (files : List ℕ → Contents) (tell : call.before.files.contents ≡ Some files) where
-      abbrev SavedOf : Exchange → Exchange → Type 0
-      SavedOf log said = IsKeptAtSave entries rules start asks.signature_bytes asks.policy_bytes file files call.after.files.contents call.before.gate call.after.gate (taken_bytes log) log.given said.given
+      abbrev SavedOf : Exchange → Type 0
+      SavedOf log = IsKeptAtSave entries rules start asks.signature_bytes asks.policy_bytes file files call.after.files.contents call.before.gate call.after.gate (taken_bytes log) log.given HasSaid
 
       abbrev AtSave : Type 0
-      AtSave = OfCalls (λ log. OfCalls (SavedOf log) call.before.report.told call.after.report.told) call.before.gate.told call.after.gate.told
+      AtSave = OfCalls SavedOf call.before.gate.told call.after.gate.told
 
       -- it is that of what is asked
       paused_told : WritesRun call call.after.report (Ok tt) → Paused asks.signature_bytes asks.policy_bytes file s
@@ -368,9 +367,8 @@ module _ {Gate : Type 0} (call : Call Gate) where
           let a = ran.answers in
           let text : List ℕ = action_lines entries rules a.out in
           let of_report = given_by text call.before.report.told call.after.report.told ran.actions.gave in
-          OfCalls-weaker (IsExchange (UpToDate s) ran.taken ran.given) (λ log. OfCalls (SavedOf log) call.before.report.told call.after.report.told) call.before.gate.told call.after.gate.told
-          (λ log exchange. OfCalls-weaker (λ said. said.given ≡ text) (SavedOf log) call.before.report.told call.after.report.told
-          (λ said is. record {
+          OfCalls-weaker (IsExchange (UpToDate s) ran.taken ran.given) SavedOf call.before.gate.told call.after.gate.told
+          (λ log exchange. record {
             answered = record {
               read = a.read;
               rest = ran.rest;
@@ -384,12 +382,12 @@ module _ {Gate : Type 0} (call : Call Gate) where
             ended = has_ended entries rules start a.read (taken_bytes log) ran.rest [] call.before.gate call.after.gate verdicts.Accepted
                 (subst (λ (b : List ℕ). LogEndsAs (taken_log_of s a.read b ran.rest) call.before.gate call.after.gate verdicts.Accepted) (sym exchange.took) ran.ends) refl;
             so_far = a.owed.so_far;
-            reported = is;
+            reported = of_report;
             state = mine.state;
             is_state = mine.is_state;
             ready = mine.ready;
             stands = mine.written.put ∙ ap (option_map (with_contents file (FileBytes mine.state))) tell;
-          }) of_report) ran.exchanged.calls
+          }) ran.exchanged.calls
 
       saved_of : IsEnforceDone call call.after.report → AtSave
       saved_of (inr written) = saves written

@@ -11,6 +11,7 @@ pub mod HandedOnLemmas
 pub mod HandingLemmas
 pub mod HeadlineLemmas
 pub mod IntakeLemmas
+pub mod LastFlushLemmas
 pub mod LineLemmas
 pub mod LogLemmas
 pub mod LogProgressLemmas

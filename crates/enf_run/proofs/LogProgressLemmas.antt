@@ -1,12 +1,12 @@
 -- How far the run of a log has come, and one turn more.
 use Rattle.enf_run.proofs.Vocabulary.{◌≡◌, ℕ, ◌+◌, ◌-◌, ◌<◌, ◌≤◌, List, [], ◌∷◌, ◌++◌, length, refl, sym, ap, subst, ◌∙◌, inl, inr, Option, arith, append_assoc, ◌⊎◌, IsTrue, append-nil, map-append}
-use Rattle.enf_run.proofs.Vocabulary.{length_push, none_more, one_more, HandsOver, Exchange, Stream, Gave, Formula, Rule, Step, ActedStep, out_steps, steps_of, Permits, Course, IsJustOne}
+use Rattle.enf_run.proofs.Vocabulary.{length_push, none_more, one_more, FlushesGate, Exchange, Stream, Gave, Formula, Rule, Step, ActedStep, out_steps, steps_of, Permits, Course, IsJustOne}
 use Rattle.enf_run.proofs.Vocabulary.{FollowsPolicy, FollowsToEnd, AreDistinct, VarId, Enforcing, enforcer_plans, acted_steps, Stands, StepOut, SpellsRecords-append, SpellsRecords-blanks}
 use Rattle.enf_run.proofs.Vocabulary.{SpellsRecords-none, SpellsRecords-push, BeginsWithRecord-shorter, text_of, BeginsWithRecord, IsPending, SpellsRecords, behind_blanks, LogItem, Input}
 use Rattle.enf_run.proofs.Vocabulary.{entry_names as names_of, NameEntry, Good, trace_of, Record, clock_after, recorded, GoodPrefix, UpToDate, IsOwedInAll, IsOwedSoFar, LogSetting, is_causable}
 use Rattle.enf_run.proofs.Vocabulary.{is_suppressible, ArePlanned, StoredTyped, WorkTogether, typed_of, SaysActions, Seen, CutsActions, CutsHanding, CutsLine, CutsSteps, all_formulas, most_log_bytes}
 use Rattle.enf_run.proofs.Vocabulary.{record_of, records_of, IsTransparentPolicy, Exchanged, IsReadBegun, LosesBytes, TakesBytes, CutsRun, FailsAtGate, FailsAtReport, IsCutLine, IsOwedWhere}
-use Rattle.enf_run.proofs.Vocabulary.{StopsShort, RunsShort, taken_log_of, RanSo, IsOwedAtEnd, faults_behind, HoldsTurn, LogEndsAs, seen_of, HasPlans, enforcer_setting, AcceptsRecords, Plan}
+use Rattle.enf_run.proofs.Vocabulary.{StopsShort, RunsShort, taken_log_of, RanSo, IsOwedAtEnd, faults_behind, HoldsTurn, seen_of, HasPlans, enforcer_setting, AcceptsRecords, Plan}
 use Rattle.enf_run.proofs.Vocabulary.{is_transparent, CutsDrain, CutsDrainLines, CutsTaken, GivesDrain, GivesRest, LosesTurn, TakesItem, WritesNothing, LogMoment, log_moment, EnforcerDrains}
 use Rattle.enf_run.proofs.Vocabulary.{EnforcerTakes, EnforcerLaws, Cut, Enforcement, Judged, Verdict}
 use Rattle.std.specs.Prelude.{Bool, true, false, Err}
@@ -448,7 +448,7 @@ module _ (entries : List NameEntry) (rules : List Rule) (first : Enforcing) (tra
         )) (writes ∙ ap faults r.writes) r.actions
 
     pub ran_cut : (left : Bool) (judged : Judged) (enforcer : Enforcing) (before b : Seen) (c : Stream) → RanSo left setting judged enforcer before b
-        → (cut : Cut) → HandsOver {T = Unit {0}} (Err cut) b.gate c → CutsRun setting before (seen_of c b.report) cut
+        → (cut : Cut) → FlushesGate {T = Unit {0}} (Err cut) b.gate c → CutsRun setting before (seen_of c b.report) cut
     ran_cut left judged enforcer before b c x cuts.WriteFault h =
         inr (inr (ran_held left judged enforcer one_more before b c x h.told h.reads h.writes, h.some_left))
     ran_cut left judged enforcer before b c x cuts.NoMemory h = ran_held left judged enforcer none_more before b c x h.told h.reads h.writes

@@ -1,21 +1,24 @@
 -- How a run ends, from how its parts end.
-use Rattle.enf_run.proofs.Vocabulary.{Exchange, none_more, one_more, ◌≡◌, ℕ, ◌+◌, ◌<◌, ◌≤◌, Bool, List, [], length, inl, inr, refl, sym, ap, subst, ◌∙◌, is_some, true, false, Option, None, Some}
+use Rattle.enf_run.proofs.Vocabulary.{Exchange, none_more, one_more, ◌≡◌, ℕ, ◌+◌, ◌≤◌, Bool, List, [], length, inl, inr, refl, sym, ap, subst, ◌∙◌, is_some, true, false, Option, None, Some}
 use Rattle.enf_run.proofs.Vocabulary.{Result, Ok, Err, OnePlans, ArePlanned, PendIsOne, SaveSetting as Bounds, Enforcing, KeptCanBeTakenUp, MOST_FILE_BYTES, Rule, NameEntry, Stream, IoRefusal, Call}
 use Rattle.enf_run.proofs.Vocabulary.{LeavesFiles, RunsCut, RunsRefused, RunsLogSo, RunsWhole, SavesState, SavesWhereAsked, WhereStood, WritesState, RanSo, conclusion_of, rest_left, HasPlans}
-use Rattle.enf_run.proofs.Vocabulary.{BeginsLog, EndsStart, typed_bounds, IsBounds, Seen, seen_of, saved_text, check_text, CheckLacks, CheckOutcome, CheckRefused, ending_after_file, CutsText}
+use Rattle.enf_run.proofs.Vocabulary.{BeginsLog, EndsStart, typed_bounds, IsBounds, Seen, seen_of, saved_text, check_text, CheckLacks, CheckOutcome, CheckRefused, ending_after_file, FlushesAfter}
 use Rattle.enf_run.proofs.Vocabulary.{Concludes, WritesText, faults_behind, all_formulas, States, records_of, EndsFile, HoldsPolicy, HoldsRefusedPolicy, HoldsRefusedSignature, HoldsSignature, CutsRun}
 use Rattle.enf_run.proofs.Vocabulary.{TookLog, LogSetting, enforced_from, AuditLacks, AuditOutcome, AuditRefused, AuditsLog, FindsVerdict, GivesNoVerdict, SaysVerdict, SaysVerdictInPart, GaveNothing}
 use Rattle.enf_run.proofs.Vocabulary.{LosesLog, TakesTrace, TakesWholeTrace, trace_log, verdict_line, DrillOutcome, AsksToEnforce, CutsLog, EnforceLacks, EnforceOutcome, EnforceRefused, EnforcesLog}
 use Rattle.enf_run.proofs.Vocabulary.{FailsToWrite, IsEnforceDone, PausesRun, WhereItStarts, WritesRun, GenerateOutcome, NoFormOutcome, NoFormRefused, RefusesWords, AsksUnderPolicy, MissesFile}
-use Rattle.enf_run.proofs.Vocabulary.{RefusesPolicyFile, RefusesSignatureFile, RunsOutBefore, CutsDrill, SaysDrillLine, generated_text, HasAudited, finish_after, Exchanged, LogEndsAs, input_log}
+use Rattle.enf_run.proofs.Vocabulary.{RefusesPolicyFile, RefusesSignatureFile, RunsOutBefore, SaysDrillLine, generated_text, HasAudited, finish_after, Exchanged, LogEndsAs, input_log}
 use Rattle.enf_run.proofs.Vocabulary.{taken_log, Audited, Gave, VerdictIsOfPolicy, Holds, Fails, most_time, recorded, Inserted, refusal_status, RefusesRun, RunsOutOfMemory, RunsOutInLine, IsTyped}
 use Rattle.enf_run.proofs.Vocabulary.{Typed, StoredTyped, typed_of, NamesEnforce, IsAuditForm, IsCheckForm, IsDrillForm, IsEnforceForm, IsGenerateForm, Cut, Ending, FileEnding, Finish, Verdict}
-use Rattle.enf_run.proofs.Vocabulary.{Enforcement, PolicyRefusal, Refusal, SignatureRefusal, Status, AddsOrHolds, AddsOrNothing, GivesCheckText, GivesFor, GivesLog, HandsOver, SaysDrillOrNothing}
+use Rattle.enf_run.proofs.Vocabulary.{Enforcement, PolicyRefusal, Refusal, SignatureRefusal, Status, AddsOrHolds, AddsOrNothing, AddsPart, GivesCheckText, GivesFor, GivesLog, IsPart, SaysDrillOrNothing, drill_line, SampleDrillFinds}
 use Rattle.trace_audit.specs.declared.verdicts.Verdict.{Verdict as Found}
 use Rattle.enf_run.proofs.ReadyStateLemmas.{ready_behind}
 use Rattle.enf_run.proofs.SavedStateLemmas.{is_state_of}
 use Rattle.enf_run.proofs.ExchangeLemmas.{exchanged_gave}
 use Rattle.enf_run.proofs.IntakeLemmas.{ends_gave}
+use Rattle.enf_run.proofs.LastFlushLemmas.{CameOf, CameOrNothing, text_came}
+use Rattle.enf_run.specs.declared.drills.Drilled.{Drilled}
+use Rattle.enf_run.specs.meaning.Outcomes.{IsPartOrHeld}
 use Rattle.enf_io.specs.declared.devices.IoRefusal.TheVariants as io
 use Rattle.enf_run.specs.declared.endings.Cut.TheVariants as cuts
 use Rattle.enf_run.specs.declared.endings.Ending.TheVariants as endings
@@ -426,33 +429,25 @@ module _ {Gate : Type 0} (call : Call Gate) (report : Stream) (signature_file po
         is_policy = holds_policy.is_policy;
       }
 
-  -- what is to be said of the policy was given whole
-  pub check_done : WritesText {T = Unit {0}} (check_text entries policy typed.ranked) (Ok tt) call.before.gate call.after.gate → CheckLeads call report (Ok finishes.Done)
-  check_done w =
-      done_leads call (CheckOutcome call) report (GivesCheckText Gave none_more call) (λ o. o)
-      (record { entries = entries; policy = policy; asks = asks_check; typed = typed; is_typed = is_typed; given = w.adds; writes = w.writes; reads = w.reads; files = same; silent = silent })
+  -- what is to be said of the policy was given, and what the gate held back was handed on
+  module _ (given : Result (Unit {0}) Cut) (between : Stream) (w : WritesText (check_text entries policy typed.ranked) given call.before.gate between) where
+    check_came : (result : Result (Unit {0}) Cut) → FlushesAfter given result between call.after.gate
+        → CameOf call.after.gate.held (check_text entries policy typed.ranked) call.before.gate.told result call.after.gate.told
+    check_came result h = text_came (check_text entries policy typed.ranked) given result call.before.gate between call.after.gate w h
 
-  check_cut : (cut : Cut) → AddsOrHolds call.after.gate.held (check_text entries policy typed.ranked) call.before.gate.told call.after.gate.told
-      → call.after.gate.write_faults ≡ faults_behind cut call.before.gate.write_faults → call.after.gate.read_faults ≡ call.before.gate.read_faults
-      → CheckLeads call report (Err (endings.Cut cut))
-  check_cut cuts.WriteFault given writes reads =
-      fault_leads call (CheckOutcome call) report (GivesCheckText (AddsOrHolds call.after.gate.held) one_more call) (λ o. o)
-      (record { entries = entries; policy = policy; asks = asks_check; typed = typed; is_typed = is_typed; given = given; writes = writes; reads = reads; files = same; silent = silent })
-  check_cut cuts.NoMemory given writes reads =
-      check_lacks call report
-      (inr (record { entries = entries; policy = policy; asks = asks_check; typed = typed; is_typed = is_typed; given = given; writes = writes; reads = reads; files = same; silent = silent }))
+    pub check_done : FlushesAfter given (Ok tt) between call.after.gate → CheckLeads call report (Ok finishes.Done)
+    check_done h =
+        done_leads call (CheckOutcome call) report (GivesCheckText Gave none_more call) (λ o. o)
+        (record { entries = entries; policy = policy; asks = asks_check; typed = typed; is_typed = is_typed; given = check_came (Ok tt) h; writes = h.writes call.before.gate.write_faults w.writes; reads = h.reads ∙ w.reads; files = same; silent = silent })
 
-  -- or a part of it
-  pub check_ends : (cut : Cut) → WritesText {T = Unit {0}} (check_text entries policy typed.ranked) (Err cut) call.before.gate call.after.gate → CheckLeads call report (Err (endings.Cut cut))
-  check_ends cut w = check_cut cut (inl w.adds) w.writes w.reads
-
-  -- or some of it is held back
-  pub check_held : (cut : Cut) (between : Stream) → WritesText {T = Unit {0}} (check_text entries policy typed.ranked) (Ok tt) call.before.gate between
-      → HandsOver {T = Unit {0}} (Err cut) between call.after.gate → CheckLeads call report (Err (endings.Cut cut))
-  check_held cut between w h =
-      check_cut cut
-      (inr (subst (λ (o : Option Exchange). Gave (check_text entries policy typed.ranked) call.before.gate.told o) (sym h.told) w.adds, h.some_left))
-      (h.writes ∙ ap (faults_behind cut) w.writes) (h.reads ∙ w.reads)
+    -- or not all of it was
+    pub check_ends : (cut : Cut) → FlushesAfter given (Err cut) between call.after.gate → CheckLeads call report (Err (endings.Cut cut))
+    check_ends cuts.WriteFault h =
+        fault_leads call (CheckOutcome call) report (GivesCheckText (AddsOrHolds call.after.gate.held) one_more call) (λ o. o)
+        (record { entries = entries; policy = policy; asks = asks_check; typed = typed; is_typed = is_typed; given = check_came (Err cuts.WriteFault) h; writes = h.writes call.before.gate.write_faults w.writes; reads = h.reads ∙ w.reads; files = same; silent = silent })
+    check_ends cuts.NoMemory h =
+        check_lacks call report
+        (inr (record { entries = entries; policy = policy; asks = asks_check; typed = typed; is_typed = is_typed; given = check_came (Err cuts.NoMemory) h; writes = h.writes call.before.gate.write_faults w.writes; reads = h.reads ∙ w.reads; files = same; silent = silent }))
 
 -- how an audit ends
 module _ {Gate : Type 0} (call : Call Gate) (report : Stream) (signature_file policy_file : List ℕ)
@@ -531,45 +526,46 @@ module _ {Gate : Type 0} (call : Call Gate) (report : Stream) (signature_file po
           is_verdict = law entries (all_formulas policy) typed.plans typed.guards (recorded (records_of log.read)) audited.found is_typed.planned has.found;
         }
 
-    -- the line was given whole
-    pub audit_said : WritesText {T = Unit {0}} (verdict_line policy audited.found) (Ok tt) middle call.after.gate → AuditLeads call report (Ok (finish_after audited.found))
-    audit_said w = by audited.found (record { finds = finds (verdict_line policy audited.found) w.adds w.reads; line = refl; writes = w.writes ∙ writes })
-      where
-        by : (found : Found) → SaysVerdict call report found → AuditLeads call report (Ok (finish_after found))
-        by Holds says = done_leads call (AuditOutcome call) report (λ r. SaysVerdict call r Holds) (λ o. o) says
-        by (Fails rule position) says =
-            violated_leads call (AuditOutcome call) report (λ r. SaysVerdict call r (Fails rule position)) (λ o. (rule, position, o)) says
+    -- the line was given, and what the gate held back was handed on
+    module _ (given : Result (Unit {0}) Cut) (between : Stream) (w : WritesText (verdict_line policy audited.found) given middle between) where
+      audit_came : (result : Result (Unit {0}) Cut) → FlushesAfter given result between call.after.gate
+          → CameOf call.after.gate.held (verdict_line policy audited.found) middle.told result call.after.gate.told
+      audit_came result h = text_came (verdict_line policy audited.found) given result middle between call.after.gate w h
 
-    -- or a part of it
-    abbrev says_part : (cut : Cut) → WritesText {T = Unit {0}} (verdict_line policy audited.found) (Err cut) middle call.after.gate → SaysVerdictInPart (faults_behind cut) call report
-    says_part cut w =
-        record { found = audited.found; finds = finds w.adds.front w.adds.gave w.reads; part = inl w.adds.part; writes = w.writes ∙ ap (faults_behind cut) writes }
+      pub audit_said : FlushesAfter given (Ok tt) between call.after.gate → AuditLeads call report (Ok (finish_after audited.found))
+      audit_said h =
+          by audited.found
+          (record { finds = finds (verdict_line policy audited.found) (audit_came (Ok tt) h) (h.reads ∙ w.reads); line = refl; writes = h.writes middle.write_faults w.writes ∙ writes })
+        where
+          by : (found : Found) → SaysVerdict call report found → AuditLeads call report (Ok (finish_after found))
+          by Holds says = done_leads call (AuditOutcome call) report (λ r. SaysVerdict call r Holds) (λ o. o) says
+          by (Fails rule position) says =
+              violated_leads call (AuditOutcome call) report (λ r. SaysVerdict call r (Fails rule position)) (λ o. (rule, position, o)) says
 
-    said_so : (cut : Cut) → SaysVerdictInPart (faults_behind cut) call report → AuditLeads call report (Err (endings.Cut cut))
-    said_so cuts.WriteFault says = fault_leads call (AuditOutcome call) report (SaysVerdictInPart one_more call) (λ o. o) says
-    said_so cuts.NoMemory says = audit_lacks call report (inr (inr says))
+      -- or not all of it was
+      says_part : AddsPart (verdict_line policy audited.found) middle.told call.after.gate.told → call.after.gate.read_faults ≡ middle.read_faults
+          → call.after.gate.write_faults ≡ call.before.gate.write_faults → SaysVerdictInPart IsPart none_more call report
+      says_part adds reads faults = record { found = audited.found; finds = finds adds.front adds.gave reads; part = adds.part; writes = faults }
 
-    pub audit_cut : (cut : Cut) → WritesText {T = Unit {0}} (verdict_line policy audited.found) (Err cut) middle call.after.gate → AuditLeads call report (Err (endings.Cut cut))
-    audit_cut cut w = said_so cut (says_part cut w)
+      says_held : AddsOrHolds call.after.gate.held (verdict_line policy audited.found) middle.told call.after.gate.told → call.after.gate.read_faults ≡ middle.read_faults
+          → call.after.gate.write_faults ≡ one_more call.before.gate.write_faults → SaysVerdictInPart (IsPartOrHeld call.after.gate.held) one_more call report
+      says_held (inl adds) reads faults = record { found = audited.found; finds = finds adds.front adds.gave reads; part = inl adds.part; writes = faults }
+      says_held (inr (gave, some)) reads faults =
+          record { found = audited.found; finds = finds (verdict_line policy audited.found) gave reads; part = inr (refl, some); writes = faults }
 
-    -- or some of it is held back
-    pub audit_held : (cut : Cut) (between : Stream) → WritesText {T = Unit {0}} (verdict_line policy audited.found) (Ok tt) middle between
-        → HandsOver {T = Unit {0}} (Err cut) between call.after.gate → AuditLeads call report (Err (endings.Cut cut))
-    audit_held cut between w h =
-        said_so cut (record {
-          found = audited.found;
-          finds = finds (verdict_line policy audited.found)
-              (subst (λ (o : Option Exchange). Gave (verdict_line policy audited.found) middle.told o) (sym h.told) w.adds) (h.reads ∙ w.reads);
-          part = inr (refl, h.some_left);
-          writes = h.writes ∙ ap (faults_behind cut) (w.writes ∙ writes);
-        })
+      pub audit_ends : (cut : Cut) → FlushesAfter given (Err cut) between call.after.gate → AuditLeads call report (Err (endings.Cut cut))
+      audit_ends cuts.WriteFault h =
+          fault_leads call (AuditOutcome call) report (SaysVerdictInPart (IsPartOrHeld call.after.gate.held) one_more call) (λ o. o)
+          (says_held (audit_came (Err cuts.WriteFault) h) (h.reads ∙ w.reads) (h.writes middle.write_faults w.writes ∙ ap one_more writes))
+      audit_ends cuts.NoMemory h =
+          audit_lacks call report (inr (inr (says_part (audit_came (Err cuts.NoMemory) h) (h.reads ∙ w.reads) (h.writes middle.write_faults w.writes ∙ writes))))
 
 -- ---- what is generated
 
 module _ {Gate : Type 0} (call : Call Gate) (report : Stream) (start steps : ℕ)
     (reads : call.after.gate.read_faults ≡ call.before.gate.read_faults) (same : LeavesFiles call)
     (silent : report ≡ call.before.report) where
-  -- the log was given whole
+  -- the log was given, and what the gate held back was handed on
   pub generate_done : IsGenerateForm call.words start steps
       → Gave (generated_text start steps) call.before.gate.told call.after.gate.told
       → call.after.gate.write_faults ≡ call.before.gate.write_faults
@@ -578,55 +574,39 @@ module _ {Gate : Type 0} (call : Call Gate) (report : Stream) (start steps : ℕ
       done_leads call (GenerateOutcome call) report (GivesFor IsGenerateForm (GivesLog Gave) none_more call) (λ o. o)
       (record { start = start; steps = steps; form = form; given = gave; writes = writes; reads = reads; files = same; silent = silent })
 
-  generate_part : (cut : Cut) → IsGenerateForm call.words start steps → AddsOrHolds call.after.gate.held (generated_text start steps) call.before.gate.told call.after.gate.told
+  -- or not all of it was
+  pub generate_ends : (cut : Cut) → IsGenerateForm call.words start steps
+      → CameOrNothing call.after.gate.held (generated_text start steps) call.before.gate.told (Err cut) call.after.gate.told
       → call.after.gate.write_faults ≡ faults_behind cut call.before.gate.write_faults → LeadsTo call (GenerateOutcome call) report (Err (endings.Cut cut))
-  generate_part cuts.WriteFault form part writes =
+  generate_ends cuts.WriteFault form part writes =
       fault_leads call (GenerateOutcome call) report (GivesFor IsGenerateForm (GivesLog (AddsOrHolds call.after.gate.held)) one_more call) (λ o. o)
       (record { start = start; steps = steps; form = form; given = part; writes = writes; reads = reads; files = same; silent = silent })
-  generate_part cuts.NoMemory form part writes =
-      lack_leads call (GenerateOutcome call) report (GivesFor IsGenerateForm (GivesLog (AddsOrNothing call.after.gate.held)) none_more call) (λ o. inl o)
-      (record { start = start; steps = steps; form = form; given = inl part; writes = writes; reads = reads; files = same; silent = silent })
-
-  -- or its writing was cut
-  pub generate_ends : (cut : Cut) → IsGenerateForm call.words start steps → CutsText (generated_text start steps) call.before.gate.told call.after.gate.told cut
-      → call.after.gate.write_faults ≡ faults_behind cut call.before.gate.write_faults → LeadsTo call (GenerateOutcome call) report (Err (endings.Cut cut))
-  generate_ends cuts.WriteFault form part writes = generate_part cuts.WriteFault form (inl part) writes
-  generate_ends cuts.NoMemory form (inl part) writes = generate_part cuts.NoMemory form (inl part) writes
-  generate_ends cuts.NoMemory form (inr none) writes =
-      lack_leads call (GenerateOutcome call) report (GivesFor IsGenerateForm (GivesLog (AddsOrNothing call.after.gate.held)) none_more call) (λ o. inl o)
-      (record { start = start; steps = steps; form = form; given = inr none; writes = writes; reads = reads; files = same; silent = silent })
-
-  -- or some of it is held back
-  pub generate_held : (cut : Cut) → IsGenerateForm call.words start steps → Gave (generated_text start steps) call.before.gate.told call.after.gate.told → 0 < call.after.gate.held
-      → call.after.gate.write_faults ≡ faults_behind cut call.before.gate.write_faults → LeadsTo call (GenerateOutcome call) report (Err (endings.Cut cut))
-  generate_held cut form gave held writes = generate_part cut form (inr (gave, held)) writes
-
-  -- what was found was given whole
-  pub drill_done : IsDrillForm call.words start steps → SaysDrillLine Gave start steps call.before.gate.told call.after.gate.told → call.after.gate.write_faults ≡ call.before.gate.write_faults
-      → LeadsTo call (DrillOutcome call) report (Ok finishes.Done)
-  drill_done form gave writes =
-      done_leads call (DrillOutcome call) report (GivesFor IsDrillForm (SaysDrillLine Gave) none_more call) (λ o. o)
-      (record { start = start; steps = steps; form = form; given = gave; writes = writes; reads = reads; files = same; silent = silent })
-
-  drill_part : (cut : Cut) → IsDrillForm call.words start steps → SaysDrillLine (AddsOrHolds call.after.gate.held) start steps call.before.gate.told call.after.gate.told
-      → call.after.gate.write_faults ≡ faults_behind cut call.before.gate.write_faults → LeadsTo call (DrillOutcome call) report (Err (endings.Cut cut))
-  drill_part cuts.WriteFault form part writes =
-      fault_leads call (DrillOutcome call) report (GivesFor IsDrillForm (SaysDrillLine (AddsOrHolds call.after.gate.held)) one_more call) (λ o. o)
+  generate_ends cuts.NoMemory form part writes =
+      lack_leads call (GenerateOutcome call) report (GivesFor IsGenerateForm (GivesLog AddsOrNothing) none_more call) (λ o. inl o)
       (record { start = start; steps = steps; form = form; given = part; writes = writes; reads = reads; files = same; silent = silent })
-  drill_part cuts.NoMemory form part writes =
-      lack_leads call (DrillOutcome call) report (GivesFor IsDrillForm (SaysDrillOrNothing call.after.gate.held) none_more call) (λ o. inl o)
-      (record { start = start; steps = steps; form = form; given = inl part; writes = writes; reads = reads; files = same; silent = silent })
 
-  -- or the drill was cut
-  pub drill_ends : (cut : Cut) → IsDrillForm call.words start steps → CutsDrill start steps call.before.gate.told call.after.gate.told cut
-      → call.after.gate.write_faults ≡ faults_behind cut call.before.gate.write_faults → LeadsTo call (DrillOutcome call) report (Err (endings.Cut cut))
-  drill_ends cuts.WriteFault form part writes = drill_part cuts.WriteFault form (record { found = part.found; finds = part.finds; given = inl part.given }) writes
-  drill_ends cuts.NoMemory form (inl part) writes = drill_part cuts.NoMemory form (record { found = part.found; finds = part.finds; given = inl part.given }) writes
-  drill_ends cuts.NoMemory form (inr none) writes =
-      lack_leads call (DrillOutcome call) report (GivesFor IsDrillForm (SaysDrillOrNothing call.after.gate.held) none_more call) (λ o. inl o)
-      (record { start = start; steps = steps; form = form; given = inr none; writes = writes; reads = reads; files = same; silent = silent })
+  -- memory ran out in a drill
+  pub drill_lost : IsDrillForm call.words start steps → call.after.gate.told ≡ call.before.gate.told → call.after.gate.write_faults ≡ call.before.gate.write_faults
+      → LeadsTo call (DrillOutcome call) report (Err (endings.Cut cuts.NoMemory))
+  drill_lost form nothing writes =
+      lack_leads call (DrillOutcome call) report (GivesFor IsDrillForm SaysDrillOrNothing none_more call) (λ o. inl o)
+      (record { start = start; steps = steps; form = form; given = inr nothing; writes = writes; reads = reads; files = same; silent = silent })
 
-  -- or some of what was found is held back
-  pub drill_held : (cut : Cut) → IsDrillForm call.words start steps → SaysDrillLine Gave start steps call.before.gate.told call.after.gate.told → 0 < call.after.gate.held
-      → call.after.gate.write_faults ≡ faults_behind cut call.before.gate.write_faults → LeadsTo call (DrillOutcome call) report (Err (endings.Cut cut))
-  drill_held cut form says held writes = drill_part cut form (record { found = says.found; finds = says.finds; given = inr (says.given, held) }) writes
+  -- or this was found
+  module _ (form : IsDrillForm call.words start steps) (found : Drilled) (finds : SampleDrillFinds start steps found) where
+    -- it was given, and what the gate held back was handed on
+    pub drill_done : Gave (drill_line found) call.before.gate.told call.after.gate.told → call.after.gate.write_faults ≡ call.before.gate.write_faults
+        → LeadsTo call (DrillOutcome call) report (Ok finishes.Done)
+    drill_done gave writes =
+        done_leads call (DrillOutcome call) report (GivesFor IsDrillForm (SaysDrillLine Gave) none_more call) (λ o. o)
+        (record { start = start; steps = steps; form = form; given = record { found = found; finds = finds; given = gave }; writes = writes; reads = reads; files = same; silent = silent })
+
+    -- or not all of it was
+    pub drill_ends : (cut : Cut) → CameOf call.after.gate.held (drill_line found) call.before.gate.told (Err cut) call.after.gate.told
+        → call.after.gate.write_faults ≡ faults_behind cut call.before.gate.write_faults → LeadsTo call (DrillOutcome call) report (Err (endings.Cut cut))
+    drill_ends cuts.WriteFault part writes =
+        fault_leads call (DrillOutcome call) report (GivesFor IsDrillForm (SaysDrillLine (AddsOrHolds call.after.gate.held)) one_more call) (λ o. o)
+        (record { start = start; steps = steps; form = form; given = record { found = found; finds = finds; given = part }; writes = writes; reads = reads; files = same; silent = silent })
+    drill_ends cuts.NoMemory part writes =
+        lack_leads call (DrillOutcome call) report (GivesFor IsDrillForm SaysDrillOrNothing none_more call) (λ o. inl o)
+        (record { start = start; steps = steps; form = form; given = inl (record { found = found; finds = finds; given = part }); writes = writes; reads = reads; files = same; silent = silent })

@@ -45,6 +45,7 @@ pub use Rattle.enf_io.specs.machine.CalmDevices.{CalmContents, calm_files, conte
 pub use Rattle.enf_io.specs.machine.StreamCalls.{Took, TookNothing, WritesAll, with_read_mark, with_taken, write_faults_after, written_before}
 pub use Rattle.enf_io.specs.meaning.Exchange.{AtEachMark, Exchange, IsAtEnd, OfCalls, Stream, exchange_since, input_left, taken_bytes}
 pub use Rattle.enf_io.specs.meaning.ExchangeGrowth.{Gave, Grew, GrewWhereTold, with_given}
+pub use Rattle.enf_io.specs.machine.FileDraws.{Draws}
 pub use Rattle.enf_io.specs.meaning.FileCalls.{CountsFor, GivesContents, ReadsFile, WritesFile, faults_after}
 pub use Rattle.enf_io.specs.meaning.Files.{Contents, FileBytes, FileView, NoFile, one_more, with_contents}
 pub use Rattle.enf_run.specs.declared.audits.Audited.{Audited}
@@ -69,7 +70,7 @@ pub use Rattle.enf_run.specs.machine.Asked.{AsksToldPolicy, AsksUnderPolicy}
 pub use Rattle.enf_run.specs.machine.AuditTurns.{AnswersAudit, AnswersAuditTurn, AnswersRecord, AuditorTakes, AuditsLater, AuditsOne, HasAudited, LeavesCounts, LosesAuditTurn, LosesLog, TakesTrace}
 pub use Rattle.enf_run.specs.machine.AuditTurns.{TakesWholeTrace, WaitsAudit, finish_after}
 pub use Rattle.enf_run.specs.machine.CommandForms.{MatchNone, MatchesForm, NamesFiles, NamesFilesAlone, NamesResumed, states_of}
-pub use Rattle.enf_run.specs.machine.DrillRuns.{CutsDrill, FinishesDrill, IsNewDrill, SampleDrillFinds, TakesCounted, TallyAtMost, causes_in, guard_operators, suppressions_in, tally_with}
+pub use Rattle.enf_run.specs.machine.DrillRuns.{FinishesDrill, IsNewDrill, SampleDrillFinds, TakesCounted, TallyAtMost, causes_in, guard_operators, suppressions_in, tally_with}
 pub use Rattle.enf_run.specs.machine.EnforceTurns.{HoldsTurn, AnswersTurn, CutsAnswer, CutsDrain, CutsDrainLines, CutsItem, CutsNext, CutsTaken, CutsTurn, EnforcesLater, EnforcesOne, GivesDrain}
 pub use Rattle.enf_run.specs.machine.EnforceTurns.{GivesRest, IsNewLog, LeavesItem, LogMoment, LosesTurn, TakesItem, WaitsForMore, WritesNothing, log_front, log_moment, reads_on}
 pub use Rattle.enf_run.specs.machine.FileReads.{EndsFile, HoldsPolicy, HoldsRefusedPolicy, HoldsRefusedSignature, HoldsRefusedState, HoldsSignature, IsFileNotRead, IsLongFile, IsShortFile}
@@ -82,7 +83,7 @@ pub use Rattle.enf_run.specs.machine.LogIntake.{LosesBytes, ReadMeetsEnd, Refuse
 pub use Rattle.enf_run.specs.machine.LogRunEnds.{EnforcerStandsBehind, HasPlans, IsOwedAtEnd, PausesLog, RanAsJudged, RanSo, RunsCut, RunsLog, RunsLogSo, RunsRefused, RunsWhole, SavesState}
 pub use Rattle.enf_run.specs.machine.LogRunEnds.{SavesWhereAsked, WhereStood, WritesState, conclusion_of, enforcer_setting, rest_left, taken_log_of}
 pub use Rattle.enf_run.specs.machine.LogStarts.{BeginsLog, EndsStart, typed_bounds}
-pub use Rattle.enf_run.specs.machine.RunEndings.{Concludes, CutsText, EndsRunWith, HandsOnWork, HandsOver, WritesText, cut_after, cut_after_file, ending_after_file, faults_behind, write_faults_behind}
+pub use Rattle.enf_run.specs.machine.RunEndings.{Concludes, CutsText, EndsRunWith, FlushesAfter, FlushesGate, HandsOnWork, WritesText, cut_after, cut_after_file, ending_after_file, faults_behind, write_faults_behind}
 pub use Rattle.enf_run.specs.machine.TwoRunCalls.{CallsAreOne, GivesBoth, GoesOnFromSaved, PausesAreOne, SameSources, TakeTurns, TakesBoth, TakesLogs, TellsCall, TellsCalls, calls_of, given_of}
 pub use Rattle.enf_run.specs.machine.TwoRunCalls.{input_of, said_of, taken_of_call}
 pub use Rattle.enf_run.specs.machine.TwoRunHeadlines.{AreNumberedLines, IsLastBehind, KeptBehindSaved, SavedBehindSaved, SavedIsAsked, record_head, start_after}

@@ -19,7 +19,7 @@ use crate::intake::{Intake, Judged, Next, Verdict, refusal_of};
 use crate::refusals::RecordRefusal;
 use crate::report_lines::write_pieces;
 use action_report::rule_name;
-use enf_data::NoMemory;
+use enf_data::{NoMemory, Seed};
 use enf_io::devices::{Gate, Sink};
 use enforce_types::TypedPolicy;
 use formula_reader::Policy;
@@ -46,9 +46,10 @@ pub struct Audit<'p> {
 }
 
 impl<'p> Audit<'p> {
-    // A log of which nothing was taken yet, to be audited by this policy.
+    // A log of which nothing was taken yet, to be audited by this policy, with hashes from the seed on.
     fn new(
         alloc: Global,
+        seed: Seed,
         signature: &Signature,
         policy: &'p TypedPolicy,
     ) -> Result<Audit<'p>, NoMemory>
@@ -58,8 +59,8 @@ impl<'p> Audit<'p> {
         ensures clock { IfOk result (λ audit. audit.clock ≡ 0) }
     {
         Ok(Audit {
-            intake: Intake::new(alloc, signature, LogMode::TraceLog)?,
-            auditor: Auditor::new(alloc, policy)?,
+            intake: Intake::new(alloc, seed, signature, LogMode::TraceLog)?,
+            auditor: Auditor::seeded(alloc, seed, policy)?,
             clock: 0,
         })
     }
@@ -68,6 +69,7 @@ impl<'p> Audit<'p> {
 /// Takes the log from the gate, to its end or to the first record that is refused, and audits its steps.
 pub fn audit_log<G: Gate>(
     alloc: Global,
+    seed: Seed,
     signature: &Signature,
     policy: &TypedPolicy,
     gate: &mut G,
@@ -81,7 +83,7 @@ pub fn audit_log<G: Gate>(
     ensures late { (G.seen gate.old).held ≡ 0
         → (G.seen gate.new).late_reads ≡ (G.seen gate.old).late_reads }
 {
-    let mut audit = Audit::new(alloc, signature, policy)?;
+    let mut audit = Audit::new(alloc, seed, signature, policy)?;
     loop {
         if let Some(verdict) = go_on(alloc, &mut audit, gate)? {
             return Ok(Audited {

@@ -7,15 +7,14 @@ ghost use Rattle.enforce_types.specs.meaning.Elab.{ArePlanned};
 ghost use Rattle.enforce_types.specs.machine.TypedPolicies.{typed_of};
 ghost use Rattle.enforcer_core.specs.machine.MadeSteps.{acted_step, acted_steps};
 ghost use Rattle.enforcer_core.specs.machine.StepMemory.{most_positions};
-ghost use Rattle.enf_io.specs.meaning.ExchangeGrowth.{Gave};
 ghost use Rattle.log_gen.specs.meaning.Samples.{sample_entries, sample_rules};
 ghost use Rattle.trace_meaning.specs.meaning.Traces.{StepRecord, most_time};
 ghost use Rattle.trace_meaning.specs.declared.kinds.StepKind.TheVariants.{System};
-ghost use Rattle.enf_run.specs.machine.DrillRuns.{TallyAtMost, CutsDrill, FinishesDrill, IsNewDrill, TakesCounted};
+ghost use Rattle.enf_run.specs.machine.DrillRuns.{TallyAtMost, FinishesDrill, IsNewDrill, TakesCounted};
 ghost use Rattle.enf_run.specs.machine.DrillRuns.{tally_with, SampleDrillFinds};
-ghost use Rattle.enf_run.specs.meaning.Reports.{SaysDrillLine, count_text, drill_line, is_cause, is_suppression};
+ghost use Rattle.enf_run.specs.meaning.Reports.{count_text, drill_line, is_cause, is_suppression};
 ghost use Rattle.enf_run.specs.meaning.Reports.{is_system};
-ghost use Rattle.enf_run.specs.machine.RunEndings.{write_faults_behind, WritesText};
+ghost use Rattle.enf_run.specs.machine.RunEndings.{WritesText};
 ghost use Rattle.enf_run.specs.meaning.Headline.{all_formulas};
 
 use crate::endings::Cut;
@@ -61,25 +60,17 @@ pub struct Drill {
     tally: Tally,
 }
 
-/// Enforces the generated log of so many steps, and gives the line of what was found.
-pub fn give_drill<S: Sink>(alloc: Global, start: u32, steps: u32, sink: &mut S) -> Result<(), Cut>
-    requires start { start ≤ MOST_START }
-    requires steps { steps ≤ MOST_STEPS }
-    ensures whole { OnOk result (SaysDrillLine Gave start steps (S.seen sink.old).told (S.seen sink.new).told) }
-    ensures cut { IfErr result (CutsDrill start steps (S.seen sink.old).told (S.seen sink.new).told) }
-    ensures writes { (S.seen sink.new).write_faults ≡
-        write_faults_behind result (S.seen sink.old).write_faults }
-    ensures reads { (S.seen sink.new).read_faults ≡ (S.seen sink.old).read_faults }
-    ensures late { (S.seen sink.new).late_reads ≡ (S.seen sink.old).late_reads }
+/// Gives the line of what a drill found.
+pub fn give_drill<S: Sink>(alloc: Global, found: &Drilled, sink: &mut S) -> Result<(), Cut>
+    ensures { WritesText (drill_line found.now) result (S.seen sink.old) (S.seen sink.new) }
 {
-    let found = drill_log(alloc, start, steps)?;
     let mut line = Vec::new(alloc);
-    append_line(&found, &mut line)?;
+    append_line(found, &mut line)?;
     Ok(write_all(sink, &line)?)
 }
 
-// Enforces the generated log of so many steps.
-fn drill_log(alloc: Global, start: u32, steps: u32) -> Result<Drilled, NoMemory>
+/// Enforces the generated log of so many steps.
+pub fn drill_log(alloc: Global, start: u32, steps: u32) -> Result<Drilled, NoMemory>
     requires start { start ≤ MOST_START }
     requires steps { steps ≤ MOST_STEPS }
     ensures { IfOk result (SampleDrillFinds start steps) }

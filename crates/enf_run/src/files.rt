@@ -23,7 +23,7 @@ ghost use Rattle.signature.specs.declared.entries.NameEntry.{NameEntry};
 use crate::endings::FileEnding;
 use crate::refusals::{PolicyRefusal, SignatureRefusal, StateRefusal};
 use crate::saved_state::Sources;
-use enf_data::{MOST_FILE_BYTES, NameId, NoMemory};
+use enf_data::{MOST_FILE_BYTES, NameId, NoMemory, Seed};
 use enf_io::devices::{Files, IoRefusal};
 use enf_value::ByteKind;
 use enforce_types::{TypeRefusal, TypedPolicy};
@@ -63,12 +63,14 @@ pub fn read_signature<F: Files>(
     }
 }
 
-/// A policy that is accepted, as it was read, with the bytes that it was read from and its plans.
+/// A policy that is accepted, as it was read, with the bytes that it was read from and its plans, and a seed for the
+/// hashes of what is read under it.
 #[derive(Drop)]
 pub struct AcceptedPolicy {
     pub bytes: Vec<u8>,
     pub policy: Policy,
     pub typed: TypedPolicy,
+    pub seed: Seed,
 }
 
 /// Reads the policy under a signature.
@@ -101,9 +103,42 @@ pub fn read_policy<F: Files>(
             bytes,
             policy,
             typed,
+            seed: Seed::known(),
         }),
         Err(refusal) => Err(FileEnding::Refused(type_refusal_of(alloc, signature, refusal)?)),
     }
+}
+
+/// So too, with a seed that nobody outside knows, for a log that a stranger writes. Where none can be had, the file
+/// counts as one that was not read.
+pub fn read_policy_with_seed<F: Files>(
+    alloc: Global,
+    files: &mut F,
+    name: &str,
+    signature: &Signature,
+) -> Result<AcceptedPolicy, FileEnding<PolicyRefusal>>
+    ensures held { IfOk result (λ accepted. HoldsPolicy (F.seen files.old).contents name.now
+        accepted.bytes.items signature.now (policy_rules_of accepted.policy)) }
+    ensures typed { IfOk result (λ accepted.
+        IsTyped signature.now (all_formulas (policy_rules_of accepted.policy)) (typed_of accepted.typed)) }
+    ensures kept { IfOk result (λ accepted. KeepsToSignature signature.now
+        (typed_of accepted.typed).plans (typed_of accepted.typed).guards) }
+    ensures same { OnOk result (F.seen files.new ≡ F.seen files.old) }
+    ensures ends { IfErr result (EndsFile MOST_FILE_BYTES
+        (HoldsRefusedPolicy (F.seen files.old).contents name.now signature.now)
+        name.now (F.seen files.old) (F.seen files.new)) }
+{
+    let accepted = read_policy(alloc, files, name, signature)?;
+    let seed = draw_seed(files, name)?;
+    Ok(AcceptedPolicy { seed, ..accepted })
+}
+
+// A seed that nobody outside knows.
+fn draw_seed<F: Files>(files: &mut F, name: &str) -> Result<Seed, IoRefusal>
+    ensures same { OnOk result (F.seen files.new ≡ F.seen files.old) }
+    ensures not_read { IfErr result (IsFileNotRead MOST_FILE_BYTES name.now (F.seen files.old) (F.seen files.new)) }
+{
+    Ok(Seed(files.draw(name)?))
 }
 
 // What is said of a refusal of the signature's text, with the name that stands at its place if that is repeated.

@@ -10,7 +10,7 @@ ghost use Rattle.log_stream.specs.declared.items.LogRefusal.TheVariants.{NoMemor
 use crate::endings::Cut;
 use crate::refusals::RecordRefusal;
 use crate::step_lines::hand_on;
-use enf_data::{Duplicate, NoMemory};
+use enf_data::{Duplicate, NoMemory, Seed};
 use enf_io::devices::{Gate, IoRefusal};
 use log_stream::{LogMode, LogReader, LogRefusal};
 use signature::Signature;
@@ -69,11 +69,16 @@ pub struct Intake {
 
 impl Intake {
     /// A log of which nothing was taken yet.
-    pub fn new(alloc: Global, signature: &Signature, mode: LogMode) -> Result<Intake, NoMemory>
+    pub fn new(
+        alloc: Global,
+        seed: Seed,
+        signature: &Signature,
+        mode: LogMode,
+    ) -> Result<Intake, NoMemory>
         ensures { IfOk result (IsNewIntake signature.now mode) }
     {
         Ok(Intake {
-            reader: LogReader::new(alloc, signature.duplicate(alloc)?, mode),
+            reader: LogReader::seeded(alloc, seed, signature.duplicate(alloc)?, mode),
             piece: vec![in alloc; 0; MOST_READ_BYTES]?,
             accepted: 0,
             taken: 0,

@@ -10,6 +10,7 @@ ghost use Rattle.enforcer_core.specs.machine.Snapshots.{CanBeTakenUp, IsTakenUpF
 ghost use Rattle.enforcer_core.specs.machine.Enforcers.{enforcer_plans};
 ghost use Rattle.enforcer_core.specs.machine.StepMemory.{most_positions};
 ghost use Rattle.enforcer_core.specs.machine.Stands.{Stands};
+ghost use Rattle.enf_run.specs.declared.endings.Cut.TheVariants.{NoMemory as OutOfMemory};
 ghost use Rattle.enf_run.specs.machine.LogRunEnds.{HasPlans, enforcer_setting, RanAsJudged, rest_left};
 ghost use Rattle.enf_run.specs.meaning.Headline.{most_log_bytes, record_of};
 ghost use Rattle.enf_run.specs.meaning.Readings.{most_read_bytes, input_log};
@@ -28,7 +29,7 @@ use crate::endings::Cut;
 use crate::intake::{Intake, Judged, Next, Verdict, refusal_of};
 use crate::refusals::RecordRefusal;
 use crate::step_lines::{Names, hand_on, write_steps};
-use enf_data::NoMemory;
+use enf_data::{NoMemory, Seed};
 use enf_io::devices::{Gate, Sink};
 use enforce_types::TypedPolicy;
 use enforce_types::laws::policy_has_one_answer;
@@ -60,9 +61,10 @@ impl Enforcement {
         &self.enforcer
     }
 
-    /// A log of which nothing was taken yet, to be enforced by this policy.
+    /// A log of which nothing was taken yet, to be enforced by this policy, with hashes from the seed on.
     pub fn new(
         alloc: Global,
+        seed: Seed,
         signature: &Signature,
         policy: TypedPolicy,
     ) -> Result<Enforcement, NoMemory>
@@ -72,8 +74,8 @@ impl Enforcement {
         ensures stands { IfOk result (λ log. Stands log.enforcer []) }
     {
         Ok(Enforcement {
-            intake: Intake::new(alloc, signature, LogMode::Input)?,
-            enforcer: Enforcer::new(alloc, policy)?,
+            intake: Intake::new(alloc, seed, signature, LogMode::Input)?,
+            enforcer: Enforcer::seeded(alloc, seed, policy)?,
             line: Vec::with_capacity(alloc, USUAL_LINE_BYTES)?,
         })
     }
@@ -81,6 +83,7 @@ impl Enforcement {
     /// A log of which nothing was taken yet, to be enforced by this policy from a state on.
     pub fn resumed(
         alloc: Global,
+        seed: Seed,
         signature: &Signature,
         policy: TypedPolicy,
         state: Snapshot,
@@ -92,8 +95,8 @@ impl Enforcement {
         ensures together { IfOk result (λ log. WorkTogether (typed_of log.enforcer.policy)) }
         ensures stands { IfOk result (λ log. StandsAgain policy state log.enforcer) }
     {
-        let enforcer = Enforcer::from_snapshot(alloc, policy, state)?;
-        let intake = Intake::new(alloc, signature, LogMode::Input)?;
+        let enforcer = Enforcer::seeded_from(alloc, seed, policy, state)?;
+        let intake = Intake::new(alloc, seed, signature, LogMode::Input)?;
         Ok(Enforcement {
             intake,
             enforcer,
@@ -104,8 +107,8 @@ impl Enforcement {
 
 /// Takes the log from the gate, enforces its whole records from where the enforcer stands, and gives their lines and
 /// those of their actions, and at its end those of what is still owed; but where the state is to be saved at the end of
-/// the input, that is left to the run that resumes. At the end the gate holds nothing back. Where memory ran out it is
-/// flushed too, which no clause says: a flush may find none either.
+/// the input, that is left to the run that resumes. At the end the gate holds nothing back, where memory ran out too;
+/// where not all was handed on, a write has failed.
 pub fn enforce_log<G: Gate, R: Sink>(
     alloc: Global,
     names: &Names<'_>,
@@ -132,6 +135,7 @@ pub fn enforce_log<G: Gate, R: Sink>(
     ensures goes_on { OnOk result (log.new.enforcer.stopped ≡ false) }
     ensures late { (G.seen gate.new).late_reads ≡ (G.seen gate.old).late_reads }
     ensures handed { OnOk result ((G.seen gate.new).held ≡ 0) }
+    ensures lacks { IfErr result (λ cut. cut ≡ OutOfMemory → (G.seen gate.new).held ≡ 0) }
     ensures cut { (trace : List Step) →
         HasPlans names.now.signature.now (policy_rules_of names.now.policy.now) log.old.enforcer →
         Stands log.old.enforcer trace → IfErr result (CutsRun

@@ -32,17 +32,18 @@ ghost use Rattle.formula_reader.specs.machine.StoredRules.{policy_rules_of};
 
 use crate::audits::{audit_log, finish_of, write_verdict};
 use crate::checks::give_check;
-use crate::drills::give_drill;
+use crate::drills::{drill_log, give_drill};
 use crate::endings::{Ending, Finish};
-use crate::files::{read_policy, read_signature, read_state};
+use crate::files::{read_policy, read_policy_with_seed, read_signature, read_state};
 use crate::generated_log::give_log;
 use crate::intake::{Judged, Verdict};
 use crate::log_run::{Enforcement, enforce_log};
 use crate::refusals::{Refusal, Status};
 use crate::report_lines::report_ending;
 use crate::saved_state::{Sources, save_where_asked};
-use crate::step_lines::{Names, hand_on};
+use crate::step_lines::{Names, hand_on_after};
 use crate::words::{Form, States, form_of};
+use enf_data::Seed;
 use enf_io::devices::{Files, Gate, Sink};
 use enforce_types::TypedPolicy;
 use enforce_types::laws::{plans_are_well_formed, policy_has_one_answer};
@@ -81,7 +82,7 @@ pub fn run<G: Gate, F: Files, R: Sink>(
     // What is held back of what the gate was given, at each read and at the end.
     ensures handed_on { HandsOnAll (G.seen gate.old) (G.seen gate.new) result }
 
-    // What has become of a log that was enforced under an accepted policy, where the devices tell.
+    // What has become of a log that was enforced under an accepted policy, where files and gate tell.
     ensures headline { Headline (map string_bytes words.now) (F.seen files.old) (F.seen files.new)
         (G.seen gate.old) (G.seen gate.new) (R.seen report.old) (R.seen report.new) result }
 {
@@ -157,8 +158,9 @@ fn enforce<G: Gate, F: Files, R: Sink>(
     ensures handed { HandsOnWork (G.seen gate.old) (G.seen gate.new) result }
 {
     let read = read_signature(alloc, files, signature_file)?;
-    let accepted = read_policy(alloc, files, policy_file, &read.signature)?;
+    let accepted = read_policy_with_seed(alloc, files, policy_file, &read.signature)?;
     let typed = accepted.typed;
+    let seed = accepted.seed;
     let names = Names {
         signature: &read.signature,
         policy: &accepted.policy,
@@ -166,7 +168,9 @@ fn enforce<G: Gate, F: Files, R: Sink>(
     let signature = read.bytes.as_slice();
     let policy = accepted.bytes.as_slice();
     let sources = Sources { signature, policy };
-    enforce_accepted(alloc, &names, sources, typed, states, gate, files, report)
+    enforce_accepted(
+        alloc, &names, sources, typed, seed, states, gate, files, report,
+    )
 }
 
 // Enforces an accepted policy of which the signature and the policy were read from these sources.
@@ -175,6 +179,7 @@ fn enforce_accepted<G: Gate, F: Files, R: Sink>(
     names: &Names<'_>,
     sources: Sources<'_>,
     typed: TypedPolicy,
+    seed: Seed,
     states: States<'_>,
     gate: &mut G,
     files: &mut F,
@@ -200,7 +205,15 @@ fn enforce_accepted<G: Gate, F: Files, R: Sink>(
     policy_has_one_answer();
     pending_is_one();
     kept_can_be_taken_up();
-    let mut log = begin_log(alloc, files, states.resume, sources, names.signature, typed)?;
+    let mut log = begin_log(
+        alloc,
+        files,
+        seed,
+        states.resume,
+        sources,
+        names.signature,
+        typed,
+    )?;
     run_log(
         alloc,
         names,
@@ -219,6 +232,7 @@ fn enforce_accepted<G: Gate, F: Files, R: Sink>(
 fn begin_log<F: Files>(
     alloc: Global,
     files: &mut F,
+    seed: Seed,
     resume: Option<&str>,
     sources: Sources<'_>,
     signature: &Signature,
@@ -241,10 +255,10 @@ fn begin_log<F: Files>(
     // Its clause says that they are well-formed.
     let _plans = typed.plans();
     let Some(file) = resume else {
-        return Ok(Enforcement::new(alloc, signature, typed)?);
+        return Ok(Enforcement::new(alloc, seed, signature, typed)?);
     };
     let state = read_state(alloc, files, file, sources, &typed)?;
-    Ok(Enforcement::resumed(alloc, signature, typed, state)?)
+    Ok(Enforcement::resumed(alloc, seed, signature, typed, state)?)
 }
 
 // Enforces the log from where the enforcer stands, and saves the state at its end where a file is named for it.
@@ -296,8 +310,8 @@ fn check<G: Gate, F: Files>(
     let read = read_signature(alloc, files, signature_file)?;
     let accepted = read_policy(alloc, files, policy_file, &read.signature)?;
     let rules = accepted.policy.rules.as_slice();
-    give_check(alloc, &read.signature, rules, &accepted.typed, gate)?;
-    hand_on(gate)?;
+    let given = give_check(alloc, &read.signature, rules, &accepted.typed, gate);
+    hand_on_after(given, gate)?;
     Ok(Finish::Done)
 }
 
@@ -320,11 +334,11 @@ fn audit<G: Gate, F: Files>(
 {
     verdict_is_of_policy();
     let read = read_signature(alloc, files, signature_file)?;
-    let accepted = read_policy(alloc, files, policy_file, &read.signature)?;
-    let audited = audit_log(alloc, &read.signature, &accepted.typed, gate)?;
+    let accepted = read_policy_with_seed(alloc, files, policy_file, &read.signature)?;
+    let audited = audit_log(alloc, accepted.seed, &read.signature, &accepted.typed, gate)?;
     conclude(audited.judged)?;
-    write_verdict(audited.found, &accepted.policy, gate)?;
-    hand_on(gate)?;
+    let given = write_verdict(audited.found, &accepted.policy, gate);
+    hand_on_after(given, gate)?;
     Ok(finish_of(audited.found))
 }
 
@@ -340,8 +354,8 @@ fn generate<G: Gate>(alloc: Global, start: u32, steps: u32, gate: &mut G) -> Res
         }) status }
     ensures handed { HandsOnWork (G.seen gate.old) (G.seen gate.new) result }
 {
-    give_log(alloc, start, steps, gate)?;
-    hand_on(gate)?;
+    let given = give_log(alloc, start, steps, gate);
+    hand_on_after(given, gate)?;
     Ok(Finish::Done)
 }
 
@@ -357,8 +371,9 @@ fn drill<G: Gate>(alloc: Global, start: u32, steps: u32, gate: &mut G) -> Result
         }) status }
     ensures handed { HandsOnWork (G.seen gate.old) (G.seen gate.new) result }
 {
-    give_drill(alloc, start, steps, gate)?;
-    hand_on(gate)?;
+    let found = drill_log(alloc, start, steps)?;
+    let given = give_drill(alloc, &found, gate);
+    hand_on_after(given, gate)?;
     Ok(Finish::Done)
 }
 

@@ -8,7 +8,7 @@ ghost use Rattle.formula_reader.specs.machine.StoredRules.{policy_rules_of};
 ghost use Rattle.log_stream.specs.meaning.LogGrammar.{line_of};
 ghost use Rattle.signature.specs.meaning.Grammar.{entry_names as names_of};
 ghost use Rattle.enf_run.specs.machine.LineCuts.{CutsSteps, GivesSteps};
-ghost use Rattle.enf_run.specs.machine.RunEndings.{HandsOver, WritesText, write_faults_behind};
+ghost use Rattle.enf_run.specs.machine.RunEndings.{FlushesAfter, FlushesGate, WritesText, write_faults_behind};
 ghost use Rattle.enf_run.specs.meaning.LogRuns.{seen_of};
 
 use crate::endings::Cut;
@@ -72,9 +72,24 @@ fn hand_on_for<G: Gate>(actions: &[Action], gate: &mut G) -> Result<(), Cut>
 
 /// Hands on what the gate holds back.
 pub fn hand_on<G: Gate>(gate: &mut G) -> Result<(), Cut>
-    ensures { HandsOver result (G.seen gate.old) (G.seen gate.new) }
+    ensures { FlushesGate result (G.seen gate.old) (G.seen gate.new) }
 {
     Ok(gate.flush()?)
+}
+
+/// Hands on what the gate holds back after output that ended so, where memory ran out too. Where that fails the write
+/// has failed.
+pub fn hand_on_after<G: Gate>(given: Result<(), Cut>, gate: &mut G) -> Result<(), Cut>
+    ensures { FlushesAfter given result (G.seen gate.old) (G.seen gate.new) }
+{
+    match given {
+        Ok(()) => hand_on(gate),
+        Err(Cut::NoMemory) => {
+            hand_on(gate)?;
+            Err(Cut::NoMemory)
+        }
+        Err(Cut::WriteFault) => Err(Cut::WriteFault),
+    }
 }
 
 #[inline(always)]

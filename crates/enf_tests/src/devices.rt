@@ -8,7 +8,7 @@ use enf_io::devices::{Files, Gate, Sink};
 use enf_io::mem_files::MemFiles;
 use enf_io::writing::write_all;
 use std::alloc::Global;
-use std::io::{ErrorKind, Write};
+use std::io::{ErrorKind, Read, Write};
 use std::test::Fail;
 use std::{fs, io};
 
@@ -132,17 +132,19 @@ fn write_twice(output: &mut Stutter, found: &mut Found) {
 
 #[test]
 fn a_gate_over_std_holds_back_until_a_flush(rt: HostRuntime) {
-    let mut found = Found::new(rt.alloc());
-    let mut output = stutter_after(rt.alloc(), 2, ErrorKind::BrokenPipe);
-    flush_thrice(rt.alloc(), &mut output, &mut found);
-    found.bytes(&output.taken);
-    assert_eq!(rt;
-        found.text(),
-        b"all|all|failed|saved|saved|@3 go();\n@4;\n|".as_slice()
-    );
+    for kind in [ErrorKind::BrokenPipe, ErrorKind::OutOfMemory] {
+        let mut found = Found::new(rt.alloc());
+        let mut output = stutter_after(rt.alloc(), 2, kind);
+        flush_thrice(rt.alloc(), &mut output, &mut found);
+        found.bytes(&output.taken);
+        assert_eq!(rt;
+            found.text(),
+            b"all|all|failed|saved|saved|@3 go();\n@4;\n|".as_slice()
+        );
+    }
 }
 
-// What a flush that failed has left is handed on by the next one, once.
+// What a flush that failed has left, for want of memory too, is handed on by the next one, once.
 fn flush_thrice(alloc: Global, output: &mut Stutter, found: &mut Found) {
     let mut gate = StdGate::new(alloc, b"".as_slice(), output);
     found.written(write_all(&mut gate, b"@3 go();\n"));
@@ -222,6 +224,41 @@ fn a_gate_over_std_reads_its_reader(rt: HostRuntime) {
     assert_eq!(rt; found.text(), b"@3;go(|)|||".as_slice());
 }
 
+// Reads what is inside, and is interrupted before each read of it.
+#[derive(Drop)]
+struct Startled<'a> {
+    left: &'a [u8],
+    was_interrupted: bool,
+}
+
+impl Read for Startled<'_> {
+    fn read(&mut self, buf: &mut [u8]) -> io::Result<usize> {
+        self.was_interrupted = !self.was_interrupted;
+        if self.was_interrupted {
+            return Err(io::Error::from(ErrorKind::Interrupted));
+        }
+        self.left.read(buf)
+    }
+}
+
+#[test]
+fn what_was_interrupted_is_done_again(rt: HostRuntime) {
+    let mut found = Found::new(rt.alloc());
+    let input = Startled {
+        left: b"@3;go()",
+        was_interrupted: false,
+    };
+    let mut gate = StdGate::new(rt.alloc(), input, io::empty());
+    read_all(&mut gate, &mut found);
+    let mut output = stutter_after(rt.alloc(), 2, ErrorKind::Interrupted);
+    write_twice(&mut output, &mut found);
+    found.bytes(&output.taken);
+    assert_eq!(rt;
+        found.text(),
+        b"@3;go(|)|||all|all|@3 go();\no();\n|".as_slice()
+    );
+}
+
 #[test]
 fn files_of_std_are_read_by_path(rt: HostRuntime) {
     let mut found = Found::new(rt.alloc());
@@ -231,5 +268,9 @@ fn files_of_std_are_read_by_path(rt: HostRuntime) {
     found.holds(fs::remove_file(&rt, "enf_io_test.txt").is_ok());
     found.file(files.read("enf_io_test.txt", 4));
     found.saved(files.write("", b"rule"));
-    assert_eq!(rt; found.text(), b"saved|rule|yes|failed|failed|".as_slice());
+    found.holds(files.draw("enf_io_test.txt").is_ok());
+    assert_eq!(rt;
+        found.text(),
+        b"saved|rule|yes|failed|failed|yes|".as_slice()
+    );
 }

@@ -1,4 +1,5 @@
 pub mod Vocabulary
+pub mod AsleepLemmas
 pub mod ClassLemmas
 pub mod CountLemmas
 pub mod CourseLemmas

@@ -11,7 +11,7 @@ pub use Rattle.std.proofs.lemmas.List.Folds.{list_any-append}
 pub use Rattle.std.proofs.lemmas.List.Sums.{sum-map, sum_by-append, sum_by-cons}
 pub use Rattle.std.proofs.lemmas.Nat.{mul-add-lt, mul-le}
 pub use Rattle.std.proofs.lemmas.Option.{none-some, same_Some, slice_get_within}
-pub use Rattle.std.proofs.lemmas.Result.{on_ok_weaker}
+pub use Rattle.std.proofs.lemmas.Result.{IfOk-weaker, on_ok_weaker}
 pub use Rattle.std.specs.Cmp.{unsigned_Decides}
 pub use Rattle.std.specs.List.{AllByRecursion, AllZip, count_by, find, flat_map, list_any, sum_by}
 pub use Rattle.std.specs.Option.{option_map, option_or}

@@ -19,6 +19,7 @@ use crate::step_memory::{Passed, Remembered};
 use crate::steps::{OutSteps, StepOut, StepRefusal, Untaken};
 use enf_data::event_sets::EventSet;
 use enf_data::memory::NoMemory;
+use enf_data::seeds::Seed;
 use enforce_types::TypedPolicy;
 use obligations::instances::Instances;
 use obligations::laws::{pending_is_enough, well_formed_can_be_asked};
@@ -83,12 +84,21 @@ impl Enforcer {
         ensures together { IfOk result (λ enforcer. WorkTogether (typed_of enforcer.policy)) }
         ensures stands { IfOk result (λ enforcer. Stands enforcer []) }
     {
+        Enforcer::seeded(alloc, Seed::known(), policy)
+    }
+
+    /// So too, where a stranger chooses the events: who does not know the seed cannot choose such as take it long.
+    pub fn seeded(alloc: Global, seed: Seed, policy: TypedPolicy) -> Result<Enforcer, NoMemory>
+        ensures made { IfOk result (IsNewEnforcer policy) }
+        ensures together { IfOk result (λ enforcer. WorkTogether (typed_of enforcer.policy)) }
+        ensures stands { IfOk result (λ enforcer. Stands enforcer []) }
+    {
         well_formed_can_be_asked();
         // Its clause says that the horizon is bounded.
         let _horizon = policy.horizon();
         let facts = PlanFacts::of(alloc, policy.plans())?;
-        let past = PastState::new(alloc, policy.guards())?;
-        let pending = Pending::new(alloc);
+        let past = PastState::seeded(alloc, seed, policy.guards())?;
+        let pending = Pending::seeded(alloc, seed);
         Ok(Enforcer {
             policy,
             facts,
@@ -114,6 +124,21 @@ impl Enforcer {
         ensures together { IfOk result (λ enforcer. WorkTogether (typed_of enforcer.policy)) }
         ensures stands { IfOk result (StandsAgain policy snapshot) }
     {
+        Enforcer::seeded_from(alloc, Seed::known(), policy, snapshot)
+    }
+
+    /// So too, with a seed.
+    pub fn seeded_from(
+        alloc: Global,
+        seed: Seed,
+        policy: TypedPolicy,
+        snapshot: Snapshot,
+    ) -> Result<Enforcer, NoMemory>
+        requires bounds { CanBeTakenUp policy snapshot }
+        ensures taken_up { IfOk result (IsTakenUpFrom policy snapshot) }
+        ensures together { IfOk result (λ enforcer. WorkTogether (typed_of enforcer.policy)) }
+        ensures stands { IfOk result (StandsAgain policy snapshot) }
+    {
         well_formed_can_be_asked();
         nodes_have_scopes();
         found_node_inherits();
@@ -127,8 +152,8 @@ impl Enforcer {
             pending,
         } = snapshot;
         let facts = PlanFacts::of(alloc, policy.plans())?;
-        let past = PastState::from_kept(alloc, policy.guards(), last, kept)?;
-        let pending = Pending::from_list(alloc, policy.plans(), clock, pending)?;
+        let past = PastState::seeded_from(alloc, seed, policy.guards(), last, kept)?;
+        let pending = Pending::seeded_from(alloc, seed, policy.plans(), clock, pending)?;
         Ok(Enforcer {
             policy,
             facts,
@@ -244,6 +269,8 @@ impl Enforcer {
         requires room { self.old.position < most_positions }
         ensures takes { IfOk result (λ made. EnforcerTakes self.old (Tick time) made self.new) }
         ensures refused { IfErr result (λ why. RefusesCall self.old time why × Leaves why self.old self.new) }
+        ensures nothing { IfOk result (λ out. ((deadline : ℕ) → Contains self.old.pending.deadlines deadline
+            → time ≤ deadline) → out.steps ≡ []) }
         ensures no_memory { ((deadline : ℕ) → Contains self.old.pending.deadlines deadline → time ≤ deadline)
             → result ≢ Err StepRefusal.NoMemory }
         ensures justified { IfOk result
@@ -269,6 +296,7 @@ impl Enforcer {
         requires room { self.old.position < most_positions }
         ensures drains { IfOk result (λ made. EnforcerDrains self.old made self.new) }
         ensures refused { IfErr result (λ why. RefusesDrain self.old why × Leaves why self.old self.new) }
+        ensures nothing { IfOk result (λ out. self.old.pending.deadlines ≡ [] → out.steps ≡ []) }
         ensures latest { IfOk result (λ out. (last : ℕ)
             → ((deadline : ℕ) → Contains self.old.pending.deadlines deadline → deadline ≤ last)
             → All (λ o. o.step.time ≤ last + (typed_of self.old.policy).ranked.horizon) (acted_steps out.steps)) }

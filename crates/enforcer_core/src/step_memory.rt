@@ -1,13 +1,18 @@
 //! What is remembered of the steps that were emitted.
 ghost use Rattle.std.specs.Prelude.{◌≡◌, ◌+◌, ◌^◌, ◌<◌, ◌≤◌, ℕ, [], IfOk, IsTrue, OnErr};
 ghost use Rattle.std.specs.Prelude.{OnOk, map};
+ghost use Rattle.choice_step.specs.machine.RuleTriggers.{AllSleep};
 ghost use Rattle.choice_step.specs.meaning.Follows.{is_inserted as is_of_deadline};
 ghost use Rattle.plan_terms.specs.machine.StoredPlans.{plan_of};
 ghost use Rattle.obligations.specs.declared.present_step.TheConstants.{MOST_TIME};
 ghost use Rattle.past_state.specs.machine.GuardPlaces.{placed_guard};
+ghost use Rattle.past_state.specs.machine.UntouchedSteps.{AreUntouched};
 ghost use Rattle.obligations.specs.machine.Successors.{LeadsAt};
 ghost use Rattle.obligations.specs.machine.AskablePlans.{CanAskOf};
-ghost use Rattle.pending.specs.machine.PendingLists.{IsPendingListOf};
+ghost use Rattle.pending.specs.machine.Moments.{step_moment};
+ghost use Rattle.pending.specs.machine.PendingLists.{IsPendingListOf, listed_instances};
+ghost use Rattle.pending.specs.machine.Waits.{SleepsNow};
+ghost use Rattle.sleepers.specs.machine.Entries.{AllButThose};
 ghost use Rattle.past_state.specs.machine.Past.{GuardsWillHold};
 ghost use Rattle.std.specs.List.{AllByRecursion};
 ghost use Rattle.trace_meaning.specs.meaning.Traces.{StepRecord, Tick, most_time};
@@ -58,6 +63,9 @@ pub(crate) struct Passed {
     pub(crate) clock: u64,
 }
 
+// How many events are looked at one by one at most, to find out that a step does nothing.
+const MOST_LOOKED_AT: usize = 8;
+
 impl Remembered {
     // Decides a step of a kind at a time, which has these events to begin with, and remembers it. Once memory has run
     // out, it is fit to be dropped.
@@ -82,7 +90,10 @@ impl Remembered {
         traces_grow();
         trace_grows();
         asleep_is_idle();
-        if self.is_idle(&facts.wakes, events.as_slice()) {
+        let inserted = is_inserted(kind);
+        let idle = self.is_idle(alloc, &facts.wakes, events.as_slice(), time, inserted)?;
+        if idle {
+            self.past.pass(time)?;
             self.position += 1;
             self.last = Some(time);
             return Ok(OutStep {
@@ -97,11 +108,57 @@ impl Remembered {
         Ok(step)
     }
 
-    // Whether nothing is pending, nothing past is remembered, and no rule is woken by the events.
-    fn is_idle(&self, wakes: &Wakes, events: &[Event]) -> bool
-        ensures { IsTrue result → IsIdle wakes.now self.now events.now }
+    // Whether no rule is woken by the events, they touch nothing that is remembered of the past, and all that is
+    // pending sleeps. An inserted step, at which something is served, is not looked at.
+    #[inline(always)]
+    fn is_idle(
+        &self,
+        alloc: Global,
+        wakes: &Wakes,
+        events: &[Event],
+        time: u64,
+        inserted: bool,
+    ) -> Result<bool, NoMemory>
+        requires kept { listed_instances self.now.pending.listed ≡ self.now.pending.instances }
+        ensures { IfOk result (λ idle. IsTrue idle → IsIdle wakes.now self.now inserted time events.now) }
     {
-        self.pending.len() == 0 && self.past.is_empty() && wakes.all_sleep(events)
+        if inserted {
+            return Ok(false);
+        }
+        if !self.changes_nothing(wakes, events) {
+            return Ok(false);
+        }
+        if self.pending.len() == 0 {
+            return Ok(true);
+        }
+        self.all_sleep(alloc, events, time, inserted)
+    }
+
+    // Whether all that is pending sleeps at a step with these events.
+    #[inline(never)]
+    fn all_sleep(
+        &self,
+        alloc: Global,
+        events: &[Event],
+        time: u64,
+        inserted: bool,
+    ) -> Result<bool, NoMemory>
+        ensures { IfOk result (λ all. IsTrue all
+            → AllButThose (SleepsNow events.now (step_moment inserted time)) self.now.pending.listed []) }
+    {
+        let woken = self.pending.woken(alloc, events, time, inserted)?;
+        Ok(woken.is_empty())
+    }
+
+    // Whether the events wake no rule and touch nothing that is remembered of the past, which is not looked for among
+    // many.
+    fn changes_nothing(&self, wakes: &Wakes, events: &[Event]) -> bool
+        ensures asleep { IsTrue result → AllSleep wakes.now events.now }
+        ensures untouched { IsTrue result → AreUntouched events.now self.now.past.operators }
+    {
+        (events.len() <= MOST_LOOKED_AT || self.past.is_empty())
+            && wakes.all_sleep(events)
+            && self.past.is_untouched(events)
     }
 
     // Decides a step at which the rules are asked, and remembers it.
@@ -175,6 +232,8 @@ impl Remembered {
             (acted_steps passed.steps.items) (enforcing_at policy.now self.new passed.clock)) }
         ensures none_left { IfOk result (λ passed. NoneIsLeft until
             (enforcing_at policy.now self.new passed.clock)) }
+        ensures nothing { IfOk result (λ passed. NoneIsLeft until (enforcing_at policy.now self.old clock)
+            → passed.steps.items ≡ []) }
         ensures memory { OnErr result (NoneIsLeft until (enforcing_at policy.now self.old clock) → ⊥) }
     {
         step_laws();
@@ -248,6 +307,8 @@ impl Remembered {
         requires not_over { clock ≤ time }
         ensures out { IfOk result (λ out. LetsOut (enforcing_at policy.now self.old clock) (Tick time)
             (acted_steps out) (enforcing_at policy.now self.new time)) }
+        ensures nothing { IfOk result (λ out. NoneIsLeft (Some time) (enforcing_at policy.now self.old clock)
+            → out ≡ []) }
         ensures memory { OnErr result (NoneIsLeft (Some time) (enforcing_at policy.now self.old clock) → ⊥) }
     {
         step_laws();

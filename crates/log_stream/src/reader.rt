@@ -12,7 +12,7 @@ use crate::items::{Found, LogItem, LogMode, LogRefusal};
 use crate::limits::MOST_RECORD_BYTES;
 use crate::records::read_record;
 use crate::scanning::Scan;
-use enf_data::{Event, NoMemory};
+use enf_data::{Event, NoMemory, Seed};
 use signature::Signature;
 use std::alloc::Global;
 use std::marker::Model;
@@ -30,6 +30,8 @@ pub struct LogReader {
     refused: Option<LogRefusal>,
     // memory for the events of a record, where some was kept
     room: Option<Vec<Event>>,
+    // of the hashes of its events
+    seed: Seed,
 }
 
 impl Model for LogReader {
@@ -81,6 +83,7 @@ fn read_ahead(
     mode: LogMode,
     bytes: &[u8],
     front: usize,
+    seed: Seed,
     room: &mut Option<Vec<Event>>,
 ) -> Option<(LogItem, usize)>
     requires { front ≤ length bytes.now }
@@ -88,7 +91,14 @@ fn read_ahead(
 {
     let begin = skip_blanks(bytes, front);
     let most = MOST_RECORD_BYTES.min(bytes.len() - begin);
-    match read_record(alloc, signature, mode, &bytes[begin..begin + most], room) {
+    match read_record(
+        alloc,
+        signature,
+        mode,
+        &bytes[begin..begin + most],
+        seed,
+        room,
+    ) {
         Ok((item, length)) => Some((item, begin + length)),
         Err(_) => None,
     }
@@ -97,6 +107,13 @@ fn read_ahead(
 impl LogReader {
     /// A reader to which nothing was fed.
     pub fn new(alloc: Global, signature: Signature, mode: LogMode) -> LogReader
+        ensures { result ≡ record { entries = signature; mode = mode; rest = []; refused = None } }
+    {
+        LogReader::seeded(alloc, Seed::known(), signature, mode)
+    }
+
+    /// So too, where a stranger writes the log: who does not know the seed cannot write records that take long to read.
+    pub fn seeded(alloc: Global, seed: Seed, signature: Signature, mode: LogMode) -> LogReader
         ensures { result ≡ record { entries = signature; mode = mode; rest = []; refused = None } }
     {
         LogReader {
@@ -108,6 +125,7 @@ impl LogReader {
             scan: Scan::Outside,
             refused: None,
             room: None,
+            seed,
         }
     }
 
@@ -165,6 +183,7 @@ impl LogReader {
             self.mode,
             bytes,
             self.front,
+            self.seed,
             &mut self.room,
         )?;
         self.front = end;
@@ -186,6 +205,7 @@ impl LogReader {
                     &self.signature,
                     self.mode,
                     &self.bytes[begin..end],
+                    self.seed,
                     &mut self.room,
                 ) {
                     Ok((item, _length)) => {

@@ -19,7 +19,7 @@ ghost use Rattle.log_stream.specs.machine.RecordStates.{ReadsFront, ReadsRow, Re
 use crate::cursor::{behind_mark, name_at, put_value_at, time_at};
 use crate::items::{LogItem, LogMode, LogRefusal};
 use crate::limits::{MOST_EVENTS, MOST_RECORD_BYTES};
-use enf_data::{Event, EventSet, NameId, NoMemory, Place, Row, Value};
+use enf_data::{Event, EventSet, NameId, NoMemory, Place, Row, Seed, Value};
 use signature::{NameEntry, Signature, Sort};
 use std::alloc::Global;
 use trace_meaning::StepKind;
@@ -263,6 +263,7 @@ fn read_step(
     kind: StepKind,
     bytes: &[u8],
     from: usize,
+    seed: Seed,
     room: &mut Option<Vec<Event>>,
 ) -> Result<(LogItem, usize), LogRefusal>
     requires within { from ≤ length bytes.now }
@@ -283,7 +284,7 @@ fn read_step(
     if let Some(refusal) = refused {
         return Err(refusal);
     }
-    let events = EventSet::from_vec(alloc, events)?;
+    let events = EventSet::from_vec(alloc, seed, events)?;
     Ok((LogItem::Step { kind, time, events }, at + 1))
 }
 
@@ -315,20 +316,29 @@ pub(crate) fn read_record(
     signature: &Signature,
     mode: LogMode,
     bytes: &[u8],
+    seed: Seed,
     room: &mut Option<Vec<Event>>,
 ) -> Result<(LogItem, usize), LogRefusal>
     requires { length bytes.now ≤ MOST_RECORD_BYTES }
     ensures { ReadsFront signature.now mode bytes.now result }
 {
     if let Some(next) = behind_mark(bytes, 0, b'@') {
-        return read_step(alloc, signature, StepKind::System, bytes, next, room);
+        return read_step(alloc, signature, StepKind::System, bytes, next, seed, room);
     }
     if let Some(next) = behind_mark(bytes, 0, b'>') {
         return read_tick(bytes, next);
     }
     if mode == LogMode::TraceLog {
         if let Some(next) = behind_mark(bytes, 0, b'+') {
-            return read_step(alloc, signature, StepKind::Inserted, bytes, next, room);
+            return read_step(
+                alloc,
+                signature,
+                StepKind::Inserted,
+                bytes,
+                next,
+                seed,
+                room,
+            );
         }
     }
     Err(bad_at(0))

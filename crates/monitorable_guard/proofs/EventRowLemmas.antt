@@ -43,7 +43,7 @@ some_is (Some r) t P is table to = subst P (sym is) (to (subst IsTable is table)
 -- ---- the values of variables
 
 -- a valuation that has the values of a row has them for the variables as terms
-values_from : (w : Valuation) (columns : List VarId) (row : List Value) → HasNoRepeats columns → length row ≡ length columns → AgreesWithRow w columns row
+pub values_from : (w : Valuation) (columns : List VarId) (row : List Value) → HasNoRepeats columns → length row ≡ length columns → AgreesWithRow w columns row
     → values_of_terms w (map Var columns) ≡ Some row
 values_from w [] [] distinct long agrees = refl
 values_from w [] (value ∷ row) distinct long agrees = absurd (omega (arith, long))
@@ -54,7 +54,7 @@ values_from w (x ∷ columns) (value ∷ row) distinct long agrees =
     (λ same. distinct.0 (subst (Contains columns) (sym same) there))) in
     λ i. onto_values (first i) (rest i)
 
-agrees_from : (w : Valuation) (columns : List VarId) (row : List Value) → values_of_terms w (map Var columns) ≡ Some row → AgreesWithRow w columns row
+pub agrees_from : (w : Valuation) (columns : List VarId) (row : List Value) → values_of_terms w (map Var columns) ≡ Some row → AgreesWithRow w columns row
 agrees_from w [] row e x there = absurd (none_in_nil x there)
 agrees_from w (y ∷ columns) row e x there = by (value_at w y) (values_of_terms w (map Var columns)) refl refl e (λ rest is behind. agrees_from w columns rest is x behind)
   where

@@ -19,6 +19,7 @@ pub mod KnownValues
 pub mod LeastLemmas
 pub mod ListedValues
 pub mod MatchLemmas
+pub mod NeededEventLemmas
 pub mod OrderedLemmas
 pub mod OrderedSafety
 pub mod PairLemmas

@@ -10,3 +10,4 @@ pub mod Reordering
 pub mod AskingOrder
 pub mod SatisfyingRows
 pub mod Laws
+pub mod NeededEvents

@@ -11,20 +11,24 @@ ghost use Rattle.enf_formula.specs.meaning.Satisfaction.{IsFree};
 ghost use Rattle.enf_formula.specs.machine.FormulaShape.{BindsFresh};
 ghost use Rattle.monitorable_guard.specs.meaning.Safety.{FreeWithin, Safe, IsTest};
 ghost use Rattle.monitorable_guard.specs.machine.PresentMeaning.{HoldsNow};
+ghost use Rattle.monitorable_guard.specs.machine.NeededEvents.{HoldsForNone};
 ghost use Rattle.monitorable_guard.specs.machine.Guards.{RefusesGuard};
 
 use crate::asked::Asked;
 use crate::conditions::{fits, is_fresh};
-use crate::evaluation::{Present, holds, rows_in, rows_over};
+use crate::evaluation::{Present, holds, rows_in};
 use crate::events::StepEvents;
 use crate::guard_rows::{Rows, are_variables, told};
 use crate::looks::{Look, add_looks};
+use crate::needed_events::lacks_event;
 use crate::operators::{are_bound, open_beside};
 use crate::order::asked_under;
 use crate::past_tables::{Past, PastTables, Renumbered};
 use crate::safety::is_safe;
 use crate::scopes::{is_free_within, with_free};
+use crate::told_rows::rows_told;
 use enf_data::event_sets::EventSet;
+use enf_data::events::Event;
 use enf_data::items::Duplicate;
 use enf_data::memory::NoMemory;
 use enf_data::places::Place;
@@ -127,6 +131,13 @@ impl Guard {
         ensures { AreOpen (tree_of self.now.formula) self.now.bound result.now }
     {
         &self.columns
+    }
+
+    /// Whether it needs an event that is not among these: then it holds nowhere.
+    pub fn lacks_event(&self, events: &[Event]) -> bool
+        ensures { IsTrue result → HoldsForNone events.now (tree_of self.now.formula) }
+    {
+        lacks_event(self.formula(), events)
     }
 
     /// Adds by which columns it looks for rows of its outermost operators on the past, where so many stand before them.
@@ -236,7 +247,7 @@ impl Guard {
         let _tables = past.count();
         let present = Present { events, past };
         let columns = self.columns().duplicate(alloc)?;
-        rows_over(alloc, &present, &self.asked.formula, 0, &scope, columns)
+        rows_told(alloc, &present, &self.asked.formula, &scope, columns)
     }
 
     /// Those of the rows of the formula under a frame that are in a table of some of their columns: it is asked under

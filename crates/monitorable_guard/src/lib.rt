@@ -13,12 +13,14 @@ pub mod guard;
 pub mod guard_rows;
 pub mod laws;
 pub mod looks;
+mod needed_events;
 mod operators;
 mod order;
 pub mod past_tables;
 mod safety;
 mod scope_rows;
 mod scopes;
+mod told_rows;
 pub mod worked_cases;
 
 pub use events::StepEvents;

@@ -31,5 +31,6 @@ pub mod SavedLemmas
 pub mod ShapeLemmas
 pub mod StackLemmas
 pub mod SurvivorLemmas
+pub mod UntouchedLemmas
 pub mod UnreadLemmas
 pub mod WindowTraceLemmas

@@ -9,6 +9,7 @@ pub mod Newcomers
 pub mod Memories
 pub mod OperatorRuns
 pub mod Past
+pub mod UntouchedSteps
 pub mod GuardPlaces
 pub mod Guards
 pub mod KeepableOperators

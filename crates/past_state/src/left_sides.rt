@@ -1,5 +1,5 @@
 //! What the left side of a `since` asks of the rows that are kept.
-ghost use Rattle.std.specs.Prelude.{◌≡◌, ◌↔◌, Contains, IfOk};
+ghost use Rattle.std.specs.Prelude.{◌≡◌, ◌↔◌, Contains, IfOk, IsTrue};
 ghost use Rattle.enf_data.specs.declared.terms.VarId.{VarId as Variable};
 ghost use Rattle.enf_data.specs.meaning.Valuations.{Valuation as Bound};
 ghost use Rattle.valuations.specs.machine.Tables.{HasValuation};
@@ -8,6 +8,7 @@ ghost use Rattle.windows.specs.machine.Windows.{WindowKeeps};
 use crate::row_filters::{all_rows, surviving_rows};
 use crate::shared_guard::SharedGuard;
 use crate::survivors::Survivors;
+use enf_data::events::Event;
 use enf_data::memory::NoMemory;
 use monitorable_guard::{Past, StepEvents};
 use std::alloc::Global;
@@ -40,6 +41,9 @@ impl Left {
         requires { CanAskLeft window.now.columns (P.tables past.now) self.now }
         ensures { IfOk result (AreSurvivors events.now (P.tables past.now) self.now window.now) }
     {
+        if self.keeps_all(events.set().as_slice()) {
+            return Ok(Survivors::All);
+        }
         match self {
             Left::All => Ok(Survivors::All),
             Left::Denied(guard) => {
@@ -52,6 +56,21 @@ impl Left {
                 let rows = surviving_rows(alloc, &kept, guard, events, past)?;
                 Ok(Survivors::Only(rows))
             }
+        }
+    }
+}
+
+impl Left {
+    ghost use Rattle.past_state.specs.machine.UntouchedSteps.{KeepsAllRows};
+
+    /// Whether all rows survive a step with these events: what lets them go needs an event that is not there.
+    pub fn keeps_all(&self, events: &[Event]) -> bool
+        ensures { IsTrue result → KeepsAllRows events.now self.now }
+    {
+        match self {
+            Left::All => true,
+            Left::Denied(guard) => guard.guard().lacks_event(events),
+            Left::ByRow(_) => false,
         }
     }
 }

@@ -14,6 +14,7 @@ mod operator_answers;
 pub mod operators;
 pub mod past;
 mod restored_past;
+mod right_rows;
 mod row_filters;
 mod row_looks;
 pub mod shapes;

@@ -1,15 +1,18 @@
 //! What is kept for an operator on the past.
-ghost use Rattle.std.specs.Prelude.{IfOk, OnOk};
+ghost use Rattle.std.specs.Prelude.{IfOk, IsTrue, List, OnOk};
+ghost use Rattle.enf_data.specs.declared.events.Event.{Event as AnyEvent};
 
 use crate::left_sides::Left;
 use crate::operator_answers::LazyTables;
-use crate::row_filters::all_rows;
+use crate::right_rows::RightRows;
+use crate::row_filters::right_rows;
 use crate::shared_guard::SharedGuard;
 use crate::survivors::Survivors;
+use enf_data::events::Event;
+use enf_data::items::Duplicate;
 use enf_data::memory::NoMemory;
 use monitorable_guard::StepEvents;
 use std::alloc::Global;
-use valuations::Table;
 use windows::{PrevSlot, SinceWindow};
 
 /// What is kept for an operator on the past, and the guards that it asks at each step. `historically` keeps the
@@ -36,12 +39,13 @@ pub enum Memory {
 #[derive(Debug, Drop)]
 pub struct StepTables {
     pub surviving: Survivors,
-    pub right: Table,
+    pub right: RightRows,
 }
 
 impl Memory {
     ghost use Rattle.past_state.specs.machine.Memories.{CanStep, AreStepTables, FitMemory, IsUpToTimeOf, IsCommittedTo};
-    ghost use Rattle.past_state.specs.machine.Memories.{IsSameMemory};
+    ghost use Rattle.past_state.specs.machine.Memories.{IsSameMemory, columns_of};
+    ghost use Rattle.past_state.specs.machine.UntouchedSteps.{IsUntouched, nothing_brought};
 
     /// What a step with these events brings, from the outermost operators of the operands.
     pub fn step_tables(
@@ -55,12 +59,12 @@ impl Memory {
     {
         match self {
             Memory::Prev { operand, .. } => {
-                let right = all_rows(alloc, operand, events, past)?;
+                let right = right_rows(alloc, operand, events, past)?;
                 let surviving = Survivors::All;
                 Ok(StepTables { surviving, right })
             }
             Memory::Once { right, .. } => {
-                let right = all_rows(alloc, right, events, past)?;
+                let right = right_rows(alloc, right, events, past)?;
                 let surviving = Survivors::All;
                 Ok(StepTables { surviving, right })
             }
@@ -71,7 +75,7 @@ impl Memory {
                 right,
             } => {
                 let behind = past.behind(*left_tables);
-                let right = all_rows(alloc, right, events, &behind)?;
+                let right = right_rows(alloc, right, events, &behind)?;
                 let surviving = left.survivors(alloc, window, events, past)?;
                 Ok(StepTables { surviving, right })
             }
@@ -79,7 +83,7 @@ impl Memory {
     }
 
     /// Makes the step the last one. Once memory has run out, it answers no more calls but drop.
-    pub fn commit(&mut self, time: u64, tables: StepTables) -> Result<(), NoMemory>
+    pub fn commit(&mut self, alloc: Global, time: u64, tables: StepTables) -> Result<(), NoMemory>
         requires later { IsUpToTimeOf time self.old }
         requires fits { FitMemory self.old tables }
         ensures ok { OnOk result (IsCommittedTo self.old time tables self.new) }
@@ -88,19 +92,52 @@ impl Memory {
         let StepTables { surviving, right } = tables;
         match self {
             Memory::Prev { slot, .. } => {
-                slot.commit(time, right);
+                slot.commit(time, right.table().duplicate(alloc)?);
                 Ok(())
             }
             Memory::Once { window, .. } => window.commit_by(
                 time,
                 &surviving.as_surviving(),
-                &right,
+                right.table(),
             ),
             Memory::Since { window, .. } => window.commit_by(
                 time,
                 &surviving.as_surviving(),
-                &right,
+                right.table(),
             ),
+        }
+    }
+
+    /// Whether a step with these events brings no row and lets none go: each of its operands needs an event that is
+    /// not there.
+    pub fn is_untouched(&self, events: &[Event]) -> bool
+        ensures { IsTrue result → IsUntouched events.now self.now }
+    {
+        match self {
+            Memory::Prev { slot, operand } => {
+                slot.is_bare() && operand.guard().lacks_event(events)
+            }
+            Memory::Once { right, .. } => right.guard().lacks_event(events),
+            Memory::Since { left, right, .. } => {
+                right.guard().lacks_event(events) && left.keeps_all(events)
+            }
+        }
+    }
+
+    /// Makes such a step the last one. Once memory has run out, it answers no more calls but drop.
+    pub fn pass(&mut self, time: u64) -> Result<(), NoMemory>
+        requires later { IsUpToTimeOf time self.old }
+        requires untouched { (events : List AnyEvent) × IsUntouched events self.old }
+        ensures ok { OnOk result (IsCommittedTo self.old time (nothing_brought (columns_of self.old)) self.new) }
+        ensures kind { IsSameMemory self.old self.new }
+    {
+        match self {
+            Memory::Prev { slot, .. } => {
+                slot.pass(time);
+                Ok(())
+            }
+            Memory::Once { window, .. } => window.pass(time),
+            Memory::Since { window, .. } => window.pass(time),
         }
     }
 }

@@ -119,8 +119,18 @@ impl Memory {
         let surviving = tables.surviving.as_surviving();
         match self {
             Memory::Prev { slot, .. } => slot.answers(time, v),
-            Memory::Once { window, .. } => window.answers(time, &surviving, &tables.right, v),
-            Memory::Since { window, .. } => window.answers(time, &surviving, &tables.right, v),
+            Memory::Once { window, .. } => window.answers(
+                time,
+                &surviving,
+                tables.right.table(),
+                v,
+            ),
+            Memory::Since { window, .. } => window.answers(
+                time,
+                &surviving,
+                tables.right.table(),
+                v,
+            ),
         }
     }
 
@@ -143,10 +153,10 @@ impl Memory {
         match self {
             Memory::Prev { slot, .. } => slot.rows_under(alloc, time, v),
             Memory::Once { window, .. } => {
-                window.rows_under(alloc, time, &surviving, &tables.right, v)
+                window.rows_under(alloc, time, &surviving, tables.right.table(), v)
             }
             Memory::Since { window, .. } => {
-                window.rows_under(alloc, time, &surviving, &tables.right, v)
+                window.rows_under(alloc, time, &surviving, tables.right.table(), v)
             }
         }
     }
@@ -168,8 +178,18 @@ impl Memory {
                 let rows = self.rows_under(alloc, time, tables, v)?;
                 Ok(!rows.is_empty())
             }
-            Memory::Once { window, .. } => Ok(window.has_some(time, &surviving, &tables.right, v)),
-            Memory::Since { window, .. } => Ok(window.has_some(time, &surviving, &tables.right, v)),
+            Memory::Once { window, .. } => Ok(window.has_some(
+                time,
+                &surviving,
+                tables.right.table(),
+                v,
+            )),
+            Memory::Since { window, .. } => Ok(window.has_some(
+                time,
+                &surviving,
+                tables.right.table(),
+                v,
+            )),
         }
     }
 }

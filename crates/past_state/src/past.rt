@@ -1,6 +1,7 @@
 //! What the operators on the past of guards remember.
 ghost use Rattle.std.specs.Prelude.{◌≡◌, ◌↔◌, ◌≤◌, ℕ, List, [], None, IfOk, OnOk, All, Contains};
 ghost use Rattle.std.specs.Prelude.{IsTrue};
+ghost use Rattle.enf_data.specs.declared.events.Event.{Event as AnyEvent};
 ghost use Rattle.valuations.specs.machine.Bindings.{bound_in};
 ghost use Rattle.valuations.specs.machine.Tables.{IsTable};
 
@@ -10,10 +11,11 @@ use crate::laws::{steps_stand, tables_are_known};
 use crate::memories::StepTables;
 use crate::names::GuardNames;
 use crate::operator_answers::LazyTables;
-use crate::operators::{OperatorStates, commit_shared, run};
+use crate::operators::{OperatorStates, are_untouched, commit_shared, pass_shared, run};
 use enf_data::event_sets::EventSet;
-use enf_data::events::NameId;
+use enf_data::events::{Event, NameId};
 use enf_data::memory::NoMemory;
+use enf_data::seeds::Seed;
 use monitorable_guard::laws::present_is_satisfied;
 use monitorable_guard::{Guard, Rows, StepEvents};
 use std::alloc::Global;
@@ -90,6 +92,7 @@ impl PastState {
     ghost use Rattle.past_state.specs.machine.MemoryTimes.{AreAtLast};
     ghost use Rattle.past_state.specs.machine.OperatorRuns.{AreUpToTimeOf, AllMemoriesFit};
     ghost use Rattle.past_state.specs.machine.StoredRows.{AreStoredRows};
+    ghost use Rattle.past_state.specs.machine.UntouchedSteps.{AreUntouched, PassedWillStand};
 
     /// One window or slot for each operator on the past, before the first step. No quantifier in a guard binds a
     /// variable in scope.
@@ -101,7 +104,19 @@ impl PastState {
         ensures up_to { IfOk result (λ p. (time : ℕ) → AreUpToTimeOf time p.operators) }
         ensures stands { IfOk result (PastStands []) }
     {
-        PastState::from_kept(alloc, guards, None, KeptRows::new(alloc))
+        PastState::seeded(alloc, Seed::known(), guards)
+    }
+
+    /// So too, with a seed for the hashes by which rows are found.
+    pub fn seeded(alloc: Global, seed: Seed, guards: &[Guard]) -> Result<PastState, NoMemory>
+        requires { All IsFreshGuard guards.now }
+        ensures guards { IfOk result (λ p. AreCopies guards.now p.guards) }
+        ensures last { IfOk result (AreAtLast None) }
+        ensures exact { IfOk result (λ p. AreStoredRows p []) }
+        ensures up_to { IfOk result (λ p. (time : ℕ) → AreUpToTimeOf time p.operators) }
+        ensures stands { IfOk result (PastStands []) }
+    {
+        PastState::seeded_from(alloc, seed, guards, None, KeptRows::new(alloc))
     }
 
     /// The tables at a step with these events at this time, which is not before the last one.
@@ -148,6 +163,29 @@ impl PastState {
         ensures stands { IsTrue result → (trace : List Step) → PastStands trace self.now }
     {
         self.operators.items.is_empty()
+    }
+
+    /// Whether a step with these events brings nothing that is remembered of the past, and takes nothing away.
+    pub fn is_untouched(&self, events: &[Event]) -> bool
+        ensures { IsTrue result → AreUntouched events.now self.now.operators }
+    {
+        are_untouched(self.operators.items.as_slice(), events)
+    }
+
+    /// Makes such a step the last one, as `commit` does. Once memory has run out, it is fit to be dropped.
+    #[inline(always)]
+    pub fn pass(&mut self, time: u64) -> Result<(), NoMemory>
+        requires later { AreUpToTimeOf time self.old.operators }
+        requires untouched { (events : List AnyEvent) × AreUntouched events self.old.operators }
+        ensures guards { self.new.guards ≡ self.old.guards }
+        ensures up_to { OnOk result ((later : ℕ) → time ≤ later → AreUpToTimeOf later self.new.operators) }
+        ensures stands { OnOk result (PassedWillStand self.old time self.new) }
+    {
+        steps_stand();
+        if self.is_empty() {
+            return Ok(());
+        }
+        pass_shared(&mut self.operators, time)
     }
 
     /// Whether a guard looks for events of the name, at a step or before it.

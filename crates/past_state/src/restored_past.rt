@@ -18,6 +18,7 @@ use crate::past::PastState;
 use crate::row_looks::index_looks;
 use enf_data::items::Duplicate;
 use enf_data::memory::NoMemory;
+use enf_data::seeds::Seed;
 use enf_formula::laws::dependence;
 use monitorable_guard::Guard;
 use std::alloc::Global;
@@ -48,11 +49,30 @@ impl PastState {
         ensures exact { IfOk result (λ p. AreStoredRows p rows) }
         ensures stands { IfOk result (WillStandFor (all_operators (map tree_in guards.now)) last rows) }
     {
+        PastState::seeded_from(alloc, Seed::known(), guards, last, rows)
+    }
+
+    /// So too, with a seed for the hashes by which rows are found.
+    pub fn seeded_from(
+        alloc: Global,
+        seed: Seed,
+        guards: &[Guard],
+        last: Option<u64>,
+        rows: KeptRows,
+    ) -> Result<PastState, NoMemory>
+        requires fresh { All IsFreshGuard guards.now }
+        requires bounds { AreWithinBounds (all_operators (map tree_in guards.now)) last rows }
+        ensures guards { IfOk result (λ p. AreCopies guards.now p.guards) }
+        ensures last { IfOk result (AreAtLast last) }
+        ensures up_to { IfOk result (IsUpToLast last) }
+        ensures exact { IfOk result (λ p. AreStoredRows p rows) }
+        ensures stands { IfOk result (WillStandFor (all_operators (map tree_in guards.now)) last rows) }
+    {
         dependence();
         let mut operators = Vec::new(alloc);
         let counts = push_all(alloc, guards, &mut operators)?;
         let placed = place_all(alloc, guards, counts)?;
-        let items = restore_all(alloc, operators, placed.as_slice(), last, rows)?;
+        let items = restore_all(alloc, seed, operators, placed.as_slice(), last, rows)?;
         let names = GuardNames::of(alloc, placed.as_slice())?;
         let guards = Rc::new(alloc, placed)?;
         let operators = Rc::new(alloc, OperatorStates { items })?;
@@ -67,6 +87,7 @@ impl PastState {
 // The operators with the rows kept, and this last time, and with indexes for what the guards look up.
 fn restore_all(
     alloc: Global,
+    seed: Seed,
     operators: Vec<OperatorState>,
     guards: &[PlacedGuard],
     last: Option<u64>,
@@ -75,7 +96,7 @@ fn restore_all(
     requires { CanRestore operators.items last rows }
     ensures { IfOk result (λ restored. AreRestored last rows 0 operators.items restored.items) }
 {
-    let mut restored = restore_each(alloc, operators, last, rows)?;
+    let mut restored = restore_each(alloc, seed, operators, last, rows)?;
     index_looks(alloc, &mut restored, guards)?;
     Ok(restored)
 }
@@ -83,6 +104,7 @@ fn restore_all(
 // The operators with the rows kept, and this last time.
 fn restore_each(
     alloc: Global,
+    seed: Seed,
     operators: Vec<OperatorState>,
     last: Option<u64>,
     rows: KeptRows,
@@ -93,7 +115,7 @@ fn restore_each(
     let lists = by_window(alloc, operators.len(), rows)?;
     let mut restored = Vec::with_capacity(alloc, operators.len())?;
     for (operator, pairs) in operators.into_iter().zip(lists.into_iter().rev()) {
-        let memory = operator.memory.restored(alloc, last, pairs)?;
+        let memory = operator.memory.restored(alloc, seed, last, pairs)?;
         restored.push(OperatorState {
             taken: operator.taken,
             memory,
@@ -133,6 +155,7 @@ impl Memory {
     fn restored(
         self,
         alloc: Global,
+        seed: Seed,
         last: Option<u64>,
         pairs: Vec<KeptPair>,
     ) -> Result<Memory, NoMemory>
@@ -146,7 +169,7 @@ impl Memory {
                 Ok(Memory::Prev { slot, operand })
             }
             Memory::Once { window, right } => {
-                let window = restored_window(alloc, &window, last, pairs)?;
+                let window = restored_window(alloc, seed, &window, last, pairs)?;
                 Ok(Memory::Once { window, right })
             }
             Memory::Since {
@@ -155,7 +178,7 @@ impl Memory {
                 left_tables,
                 right,
             } => {
-                let window = restored_window(alloc, &window, last, pairs)?;
+                let window = restored_window(alloc, seed, &window, last, pairs)?;
                 Ok(Memory::Since {
                     window,
                     left,
@@ -184,6 +207,7 @@ fn restored_slot(
 
 fn restored_window(
     alloc: Global,
+    seed: Seed,
     window: &SinceWindow,
     last: Option<u64>,
     pairs: Vec<KeptPair>,
@@ -193,5 +217,12 @@ fn restored_window(
     ensures { IfOk result (IsRestoredWindow window.now last pairs.items) }
 {
     let columns = window.columns().duplicate(alloc)?;
-    SinceWindow::from_kept(alloc, window.interval(), columns, last.unwrap_or(0), pairs)
+    SinceWindow::from_kept(
+        alloc,
+        seed,
+        window.interval(),
+        columns,
+        last.unwrap_or(0),
+        pairs,
+    )
 }

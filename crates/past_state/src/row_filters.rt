@@ -11,6 +11,7 @@ ghost use Rattle.enf_formula.specs.machine.FormulaShape.{BindsFresh};
 ghost use Rattle.past_state.specs.machine.OperandQueries.{AllComeFrom};
 ghost use Rattle.valuations.specs.machine.Tables.{IsTable, HasValuation, AgreeOnColumns};
 
+use crate::right_rows::RightRows;
 use crate::shared_guard::SharedGuard;
 use enf_data::items::Duplicate;
 use enf_data::memory::NoMemory;
@@ -41,6 +42,31 @@ pub fn all_rows<P: Past>(
 {
     let guard = guard.guard();
     guard.evaluate_at(alloc, events, past, &Valuation::empty(alloc))
+}
+
+// Those rows as what is made of them shares them. Where the guard needs an event that is not there, none is made.
+pub fn right_rows<P: Past>(
+    alloc: Global,
+    guard: &SharedGuard,
+    events: &StepEvents<'_>,
+    past: &P,
+) -> Result<RightRows, NoMemory>
+    requires bound { guard.now.bound ≡ [] }
+    requires fresh { BindsFresh (tree_of guard.now.formula)
+        (λ x. Contains guard.now.bound x ⊎ IsFree x (tree_of guard.now.formula)) }
+    requires tabled { FitOperators (outermost (tree_of guard.now.formula)) (P.tables past.now) }
+    ensures table { IfOk result IsTable }
+    ensures free { IfOk result (λ t. AreFreeVariables (tree_of guard.now.formula) t.columns) }
+    ensures rows { IfOk result (λ t. (v : Bound) → BindsColumns v t.columns
+        → HasValuation t v ↔ HoldsNow events.now (P.tables past.now) v (tree_of guard.now.formula)) }
+    ensures known { IfOk result
+        (AllComeFrom events.now (P.tables past.now) (tree_of guard.now.formula)) }
+{
+    if guard.guard().lacks_event(events.set().as_slice()) {
+        return guard.no_rows(alloc);
+    }
+    let rows = all_rows(alloc, guard, events, past)?;
+    RightRows::of(alloc, rows)
 }
 
 // Of the rows, whose columns are the guard's bound variables and all that are free in it, those under which it holds.

@@ -27,6 +27,7 @@ use deadline_queue::DeadlineQueue;
 use enf_data::Event;
 use enf_data::items::Duplicate;
 use enf_data::memory::NoMemory;
+use enf_data::seeds::Seed;
 use obligations::instances::Instances;
 use obligations::laws::pending_exists;
 use obligations::{Instance, Now};
@@ -70,7 +71,15 @@ impl Pending {
         ensures instances { result.instances ≡ [] }
         ensures kept { (plans : List AnyPlan) → IsPendingListOf plans result }
     {
-        let sleepers = Sleepers::new(alloc);
+        Pending::seeded(alloc, Seed::known())
+    }
+
+    /// So too, with a seed for the hashes by which what an event wakes is found.
+    pub fn seeded(alloc: Global, seed: Seed) -> Pending
+        ensures instances { result.instances ≡ [] }
+        ensures kept { (plans : List AnyPlan) → IsPendingListOf plans result }
+    {
+        let sleepers = Sleepers::new(alloc, seed);
         let deadlines = DeadlineQueue::new(alloc);
         Pending {
             sleepers,
@@ -90,7 +99,21 @@ impl Pending {
         ensures instances { IfOk result (λ p. p.instances ≡ list) }
         ensures kept { IfOk result (IsPendingListOf (map plan_of plans.now)) }
     {
-        let mut sleepers = Sleepers::new(alloc);
+        Pending::seeded_from(alloc, Seed::known(), plans, time, list)
+    }
+
+    /// So too, with a seed for the hashes by which what an event wakes is found.
+    pub fn seeded_from(
+        alloc: Global,
+        seed: Seed,
+        plans: &[Plan],
+        time: u64,
+        list: Instances,
+    ) -> Result<Pending, NoMemory>
+        ensures instances { IfOk result (λ p. p.instances ≡ list) }
+        ensures kept { IfOk result (IsPendingListOf (map plan_of plans.now)) }
+    {
+        let mut sleepers = Sleepers::new(alloc, seed);
         let mut deadlines = DeadlineQueue::new(alloc);
         put_listed(alloc, plans, time, list, &mut sleepers, &mut deadlines)?;
         Ok(Pending {
@@ -98,6 +121,11 @@ impl Pending {
             deadlines,
             steps: 1,
         })
+    }
+
+    /// The seed of the hashes.
+    pub fn seed(&self) -> Seed {
+        self.sleepers.seed()
     }
 
     /// How many instances there are.

@@ -3,6 +3,7 @@ use Rattle.sleepers.proofs.Vocabulary.{◌≡◌, ℕ, ◌≤◌, Bool, true, fa
 use Rattle.sleepers.proofs.Vocabulary.{pointwise, option_eq, cases_eq, false≢true, Decides-and, Decides-eqb, Decides-like, none-some, same_Some, slice_eq-Decides, value_eq, value_eq-Decides}
 use Rattle.sleepers.proofs.Vocabulary.{derived_value_eq-Decides, here, later, first_or_later, none_in_nil, Event, NameId, Value, fixed_of, masked_values, shape_of, FitArgs, HasNone, MatchesPattern}
 use Rattle.sleepers.proofs.Vocabulary.{MatchesNone, Shape, Pattern}
+use Rattle.enf_data.specs.declared.seeds.Seed.{Seed}
 use Rattle.sleepers.specs.machine.PatternKeys.{pattern_key}
 use Rattle.enf_data.specs.contracts.values.ValuePartialEq.TheImpl as values
 use Rattle.sleepers.specs.contracts.patterns.PatternPartialEq.TheImpl as derived
@@ -19,23 +20,23 @@ fits_masked (Some x ∷ args) (v ∷ values) fits =
     let rest = fits_masked args values fits.1 in
     λ i. Some (same i) ∷ rest i
 
-pub key_matches : (pattern : Pattern) (event : Event) → MatchesPattern pattern event
-    → pattern_key event.name (masked_values (fixed_of pattern.args) event.args) ≡ pattern_key pattern.name pattern.args
-key_matches pattern event matches =
+pub key_matches : (seed : Seed) (pattern : Pattern) (event : Event) → MatchesPattern pattern event
+    → pattern_key seed event.name (masked_values (fixed_of pattern.args) event.args) ≡ pattern_key seed pattern.name pattern.args
+key_matches seed pattern event matches =
     let name = matches.name in
     let args = fits_masked pattern.args event.args matches.args in
-    λ i. pattern_key (name i) (args i)
+    λ i. pattern_key seed (name i) (args i)
 
 -- what is found under the key of the event has all groups that are noted under such a pattern
-pub shape_found : (pairs : List (ℕ × ℕ)) (shape : Shape) (event : Event) (found : List ℕ)
-    → ((pair : ℕ × ℕ) → Contains pairs pair → pattern_key event.name (masked_values shape.fixed event.args) ≤ pair.0
-    → pair.0 ≤ pattern_key event.name (masked_values shape.fixed event.args) → Contains found pair.1)
-    → (group : ℕ) (pattern : Pattern) → shape ≡ shape_of pattern → Contains pairs (pattern_key pattern.name pattern.args, group)
+pub shape_found : (seed : Seed) (pairs : List (ℕ × ℕ)) (shape : Shape) (event : Event) (found : List ℕ)
+    → ((pair : ℕ × ℕ) → Contains pairs pair → pattern_key seed event.name (masked_values shape.fixed event.args) ≤ pair.0
+    → pair.0 ≤ pattern_key seed event.name (masked_values shape.fixed event.args) → Contains found pair.1)
+    → (group : ℕ) (pattern : Pattern) → shape ≡ shape_of pattern → Contains pairs (pattern_key seed pattern.name pattern.args, group)
     → MatchesPattern pattern event → Contains found group
-shape_found pairs shape event found finds group pattern is there matches =
-    let same : pattern_key event.name (masked_values shape.fixed event.args) ≡ pattern_key pattern.name pattern.args =
-    ap (λ (s : Shape). pattern_key event.name (masked_values s.fixed event.args)) is ∙ key_matches pattern event matches in
-    finds (pattern_key pattern.name pattern.args, group) there (omega (arith, same)) (omega (arith, same))
+shape_found seed pairs shape event found finds group pattern is there matches =
+    let same : pattern_key seed event.name (masked_values shape.fixed event.args) ≡ pattern_key seed pattern.name pattern.args =
+    ap (λ (s : Shape). pattern_key seed event.name (masked_values s.fixed event.args)) is ∙ key_matches seed pattern event matches in
+    finds (pattern_key seed pattern.name pattern.args, group) there (omega (arith, same)) (omega (arith, same))
 
 -- ---- whether an event is of a pattern
 

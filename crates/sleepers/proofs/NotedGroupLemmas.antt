@@ -4,6 +4,7 @@ use Rattle.sleepers.proofs.Vocabulary.{length, length-append, append-nil, AllByR
 use Rattle.sleepers.proofs.Vocabulary.{first_or_later, none_in_nil, AllByRecursion-contains, AllByRecursion-weaker, HasNoRepeats, Event, IsAsleep, IsFreePlace, entry_places, AreAlike, AreAwake}
 use Rattle.sleepers.proofs.Vocabulary.{AreKept, AreNoted, AreRewound, HasIn, OthersStay, StandsAsleep, StandsAwake, StayGroups, Suits, WakeAlike, by_place, entries_at, group_at, held, CanBeFound}
 use Rattle.sleepers.proofs.Vocabulary.{IsGroupFound, IsNoted, KeepsAll, KeepsOthers, Noted, PatternsSleep, awake_from, listed_patterns, Place, MatchesPattern, Entry, Pattern}
+use Rattle.enf_data.specs.declared.seeds.Seed.{Seed}
 use Rattle.sleepers.specs.machine.PatternKeys.{pattern_key}
 use Rattle.sleepers.proofs.EntryLemmas.{in_places}
 use Rattle.sleepers.proofs.GroupLemmas.{alike_back, alike_itself, alike_on, asleep_alike, fresh_at, fresh_held, held_has, nothing}
@@ -13,8 +14,11 @@ use Rattle.sleepers.proofs.PlaceListLemmas.{apart_more, at_place, by_place_has, 
 -- ---- what is noted
 
 pub noted_on : (old new : Noted) (group : ℕ) (pattern : Pattern) → KeepsAll old new → IsNoted old group pattern → IsNoted new group pattern
-noted_on old new group pattern keeps is =
-    record { shape = keeps.shapes _ is.shape; listed = keeps.patterns _ is.listed }
+noted_on old new group pattern keeps is = record {
+  shape = keeps.shapes _ is.shape;
+  listed = subst (λ (s : Seed). Contains new.patterns (pattern_key s pattern.name pattern.args, group)) (sym keeps.seed)
+      (keeps.patterns _ is.listed);
+}
 
 pub noted_each_on : (old new : Noted) (group : ℕ) (patterns : List Pattern) → KeepsAll old new → AllByRecursion (IsNoted old group) patterns
     → AllByRecursion (IsNoted new group) patterns
@@ -32,6 +36,7 @@ keeps_on one two three a b = record {
   ends = λ x there. b.ends x (a.ends x there);
   shapes = λ x there. b.shapes x (a.shapes x there);
   is_begun = b.is_begun ∙ a.is_begun;
+  seed = b.seed ∙ a.seed;
 }
 
 found_others : (old new : Noted) (released group : ℕ) (patterns : Option (List Pattern)) (end : ℕ) → (released ≡ group → ⊥)
@@ -40,16 +45,17 @@ found_others old new released group patterns end other keeps found = record {
   by_end = ⊎_elim (λ same. absurd (other same)) (λ there. there) (keeps.ends (awake_from patterns end, group) found.by_end);
   by_pattern = AllByRecursion-weaker (IsNoted old group) (IsNoted new group) (listed_patterns patterns) (λ p is. record {
     shape = keeps.shapes _ is.shape;
-    listed = ⊎_elim (λ same. absurd (other same)) (λ there. there) (keeps.patterns (pattern_key p.name p.args, group) is.listed);
+    listed = subst (λ (s : Seed). Contains new.patterns (pattern_key s p.name p.args, group)) (sym keeps.seed)
+        (⊎_elim (λ same. absurd (other same)) (λ there. there) (keeps.patterns (pattern_key old.seed p.name p.args, group) is.listed));
   }) found.by_pattern;
 }
 
 pub found_begun : (noted : Noted) (group : ℕ) (patterns : Option (List Pattern)) (end : ℕ) → IsGroupFound noted group patterns end
-    → IsGroupFound (record { patterns = noted.patterns; ends = noted.ends; shapes = noted.shapes; is_begun = true }) group patterns end
+    → IsGroupFound (record { patterns = noted.patterns; ends = noted.ends; shapes = noted.shapes; is_begun = true; seed = noted.seed }) group patterns end
 found_begun noted group patterns end found = record {
   by_end = found.by_end;
   by_pattern = AllByRecursion-weaker (IsNoted noted group)
-      (IsNoted (record { patterns = noted.patterns; ends = noted.ends; shapes = noted.shapes; is_begun = true }) group) (listed_patterns patterns)
+      (IsNoted (record { patterns = noted.patterns; ends = noted.ends; shapes = noted.shapes; is_begun = true; seed = noted.seed }) group) (listed_patterns patterns)
       (λ p is. record { shape = is.shape; listed = is.listed }) found.by_pattern;
 }
 
@@ -157,7 +163,7 @@ module _ {T : Type 0} where
 
   pub noted_begun : (groups : List (Split (Entry T))) (old each new : Noted) → AreNoted groups old
       → ((number : ℕ) (x : Entry T) → Contains (entries_at groups number) x → IsGroupFound each number x.patterns x.end)
-      → new ≡ record { patterns = each.patterns; ends = each.ends; shapes = each.shapes; is_begun = true } → AreNoted groups new
+      → new ≡ record { patterns = each.patterns; ends = each.ends; shapes = each.shapes; is_begun = true; seed = each.seed } → AreNoted groups new
   noted_begun groups old each new noted found same = record {
     found = λ number x there begun.
         subst (λ (n : Noted). IsGroupFound n number x.patterns x.end) (sym same) (found_begun each number x.patterns x.end (found number x there));

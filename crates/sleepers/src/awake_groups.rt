@@ -266,7 +266,7 @@ pub(crate) fn renew<T: Drop>(alloc: Global, groups: &mut Groups<T>, index: &mut 
         return;
     }
     *groups = Groups::new(alloc);
-    *index = Index::new(alloc);
+    *index = Index::new(alloc, index.seed());
 }
 
 // Ends a walk over its first group, if no entry of that is left.

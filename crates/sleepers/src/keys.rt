@@ -4,13 +4,12 @@ ghost use Rattle.std.specs.Option.{option_copied};
 ghost use Rattle.sleepers.specs.machine.PatternKeys.{arg_writes, fixed_of, pattern_key, masked_values, shape_of};
 ghost use Rattle.sleepers.specs.machine.PatternKeys.{args_writes};
 ghost use Rattle.sleepers.specs.machine.NotedGroups.{IsContainedIn};
-ghost use Rattle.std.specs.Hash.FoldHasher as hasher;
+ghost use Rattle.enf_data.specs.machine.SeededHashes.{seeded_write};
 
 use crate::patterns::Pattern;
-use enf_data::{Event, Items, NameId, NoMemory, Value};
+use enf_data::{Event, Items, NameId, NoMemory, Seed, SeededHasher, Value};
 use std::alloc::Global;
-use std::default::Default;
-use std::hash::{FoldHasher, Hasher};
+use std::hash::{BuildHasher, Hasher};
 
 /// A name, and which of its arguments are fixed.
 #[derive(Debug, Drop)]
@@ -19,28 +18,28 @@ pub struct Shape {
     pub fixed: Items<bool>,
 }
 
-// The number of a pattern. Others may have it too.
-pub(crate) fn key_of(pattern: &Pattern) -> u64
-    ensures { result ≡ pattern_key pattern.now.name pattern.now.args }
+// The number of a pattern from the seed on. Others may have it too.
+pub(crate) fn key_of(seed: Seed, pattern: &Pattern) -> u64
+    ensures { result ≡ pattern_key seed pattern.now.name pattern.now.args }
 {
-    let mut state = FoldHasher::default();
+    let mut state = seed.build_hasher();
     state.write_u32(pattern.name.0);
     feed_all(pattern.args.as_slice(), &mut state);
     state.finish()
 }
 
 // The number of the pattern of which the event is and of which just these arguments are fixed.
-pub(crate) fn key_at(event: &Event, fixed: &[bool]) -> u64
-    ensures { result ≡ pattern_key event.now.name (masked_values fixed.now event.now.args) }
+pub(crate) fn key_at(seed: Seed, event: &Event, fixed: &[bool]) -> u64
+    ensures { result ≡ pattern_key seed event.now.name (masked_values fixed.now event.now.args) }
 {
-    let mut state = FoldHasher::default();
+    let mut state = seed.build_hasher();
     state.write_u32(event.name.0);
     feed_fixed(event.args.as_slice(), fixed, &mut state);
     state.finish()
 }
 
-fn feed_all(args: &[Option<Value>], state: &mut FoldHasher)
-    ensures { state.new ≡ fold hasher.write state.old (args_writes args.now) }
+fn feed_all(args: &[Option<Value>], state: &mut SeededHasher)
+    ensures { state.new ≡ fold seeded_write state.old (args_writes args.now) }
 {
     let Some((arg, others)) = args.split_first() else {
         return;
@@ -49,8 +48,8 @@ fn feed_all(args: &[Option<Value>], state: &mut FoldHasher)
     feed_all(others, state);
 }
 
-fn feed_fixed(values: &[Value], fixed: &[bool], state: &mut FoldHasher)
-    ensures { state.new ≡ fold hasher.write state.old (args_writes (masked_values fixed.now values.now)) }
+fn feed_fixed(values: &[Value], fixed: &[bool], state: &mut SeededHasher)
+    ensures { state.new ≡ fold seeded_write state.old (args_writes (masked_values fixed.now values.now)) }
 {
     let Some((is_fixed, others)) = fixed.split_first() else {
         return;
@@ -62,8 +61,8 @@ fn feed_fixed(values: &[Value], fixed: &[bool], state: &mut FoldHasher)
     feed_fixed(other_values, others, state);
 }
 
-fn feed(arg: Option<&Value>, state: &mut FoldHasher)
-    ensures { state.new ≡ fold hasher.write state.old (arg_writes (option_copied arg.entry)) }
+fn feed(arg: Option<&Value>, state: &mut SeededHasher)
+    ensures { state.new ≡ fold seeded_write state.old (arg_writes (option_copied arg.entry)) }
 {
     match arg {
         None => state.write_u8(0),

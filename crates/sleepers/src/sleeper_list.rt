@@ -10,7 +10,7 @@ use crate::awake_groups::{
 use crate::entries::Entry;
 use crate::groups::Groups;
 use crate::wake_index::Index;
-use enf_data::{Event, NoMemory};
+use enf_data::{Event, NoMemory, Seed};
 use std::alloc::Global;
 use std::marker::Model;
 use std::mem::replace;
@@ -46,19 +46,24 @@ impl<T> Model for Sleepers<T> {
 }
 
 impl<T: Drop> Sleepers<T> {
-    /// No entry. It takes no memory.
-    pub fn new(alloc: Global) -> Sleepers<T>
+    /// No entry. It takes no memory. What wakes entries is found by hashes from the seed on.
+    pub fn new(alloc: Global, seed: Seed) -> Sleepers<T>
         ensures entries { result.entries ≡ [] }
         ensures ahead { result.ahead ≡ [] }
     {
         Sleepers {
             groups: Groups::new(alloc),
-            index: Index::new(alloc),
+            index: Index::new(alloc, seed),
             count: 0,
             walk: Vec::new(alloc),
             spare: Vec::new(alloc),
             alloc,
         }
+    }
+
+    /// The seed of the hashes.
+    pub fn seed(&self) -> Seed {
+        self.index.seed()
     }
 
     /// How many entries there are.

@@ -11,7 +11,7 @@ ghost use Rattle.sleepers.specs.declared.patterns.Pattern.{Pattern as AnyPattern
 use crate::keys::{Shape, key_at, key_of, note_shape};
 use crate::pairs::Pairs;
 use crate::patterns::{Pattern, Patterns};
-use enf_data::{Event, NoMemory};
+use enf_data::{Event, NoMemory, Seed};
 use std::alloc::Global;
 use std::marker::Model;
 
@@ -23,6 +23,8 @@ pub struct Index {
     shapes: Vec<Shape>,
     // Whether all groups are noted.
     is_begun: bool,
+    // of the keys of patterns
+    seed: Seed,
 }
 
 impl Model for Index {
@@ -35,12 +37,13 @@ impl Model for Index {
       ends = i.by_end;
       shapes = i.shapes.items;
       is_begun = i.is_begun;
+      seed = i.seed;
     } };
 }
 
 impl Index {
     // No group. It takes no memory.
-    pub(crate) fn new(alloc: Global) -> Index
+    pub(crate) fn new(alloc: Global, seed: Seed) -> Index
         ensures { result.is_begun ≡ false }
     {
         Index {
@@ -48,7 +51,13 @@ impl Index {
             by_end: Pairs::new(alloc),
             shapes: Vec::new(alloc),
             is_begun: false,
+            seed,
         }
+    }
+
+    // The seed of the keys.
+    pub(crate) fn seed(&self) -> Seed {
+        self.seed
     }
 
     // Whether all groups are noted.
@@ -65,6 +74,7 @@ impl Index {
           ends = self.old.ends;
           shapes = self.old.shapes;
           is_begun = true;
+          seed = self.old.seed;
         } }
     {
         self.is_begun = true;
@@ -113,7 +123,7 @@ impl Index {
         ensures kept { KeepsAll self.old self.new }
     {
         note_shape(alloc, &mut self.shapes, pattern)?;
-        self.by_pattern.add(key_of(pattern), group)
+        self.by_pattern.add(key_of(self.seed, pattern), group)
     }
 
     // Lets go of a group that was noted under these, where groups are noted.
@@ -125,7 +135,7 @@ impl Index {
         }
         self.by_end.remove(awake_from(patterns, end), group);
         if let Some(patterns) = patterns {
-            remove_each(&mut self.by_pattern, group, patterns.as_slice());
+            remove_each(&mut self.by_pattern, self.seed, group, patterns.as_slice());
         }
     }
 
@@ -160,7 +170,13 @@ impl Index {
         ensures kept { IsContainedIn found.old.items found.new.items }
     {
         for event in events {
-            find_event(&self.by_pattern, self.shapes.as_slice(), event, found)?;
+            find_event(
+                &self.by_pattern,
+                self.seed,
+                self.shapes.as_slice(),
+                event,
+                found,
+            )?;
         }
         Ok(())
     }
@@ -169,36 +185,38 @@ impl Index {
 // Adds the groups under patterns of which the event is.
 fn find_event(
     by_pattern: &Pairs,
+    seed: Seed,
     shapes: &[Shape],
     event: &Event,
     found: &mut Vec<usize>,
 ) -> Result<(), NoMemory>
     ensures ok { OnOk result ((group : ℕ) (pattern : AnyPattern) → Contains shapes.now (shape_of pattern)
-        → Contains by_pattern.now (pattern_key pattern.name pattern.args, group) → MatchesPattern pattern event.now
+        → Contains by_pattern.now (pattern_key seed pattern.name pattern.args, group) → MatchesPattern pattern event.now
         → Contains found.new.items group) }
     ensures kept { IsContainedIn found.old.items found.new.items }
 {
     for shape in shapes {
-        find_shape(by_pattern, shape, event, found)?;
+        find_shape(by_pattern, seed, shape, event, found)?;
     }
     Ok(())
 }
 
 fn find_shape(
     by_pattern: &Pairs,
+    seed: Seed,
     shape: &Shape,
     event: &Event,
     found: &mut Vec<usize>,
 ) -> Result<(), NoMemory>
     ensures ok { OnOk result ((group : ℕ) (pattern : AnyPattern) → shape.now ≡ shape_of pattern
-        → Contains by_pattern.now (pattern_key pattern.name pattern.args, group) → MatchesPattern pattern event.now
+        → Contains by_pattern.now (pattern_key seed pattern.name pattern.args, group) → MatchesPattern pattern event.now
         → Contains found.new.items group) }
     ensures kept { IsContainedIn found.old.items found.new.items }
 {
     if shape.name.0 != event.name.0 {
         return Ok(());
     }
-    let key = key_at(event, shape.fixed.as_slice());
+    let key = key_at(seed, event, shape.fixed.as_slice());
     by_pattern.find(key, key, found)
 }
 
@@ -210,11 +228,11 @@ fn keep_each_once(numbers: &mut Vec<usize>)
     numbers.dedup();
 }
 
-fn remove_each(by_pattern: &mut Pairs, group: usize, patterns: &[Pattern])
+fn remove_each(by_pattern: &mut Pairs, seed: Seed, group: usize, patterns: &[Pattern])
     ensures { IsWithinBut group by_pattern.old by_pattern.new }
 {
     for pattern in patterns {
-        by_pattern.remove(key_of(pattern), group);
+        by_pattern.remove(key_of(seed, pattern), group);
     }
 }
 

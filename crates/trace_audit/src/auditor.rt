@@ -13,6 +13,7 @@ use crate::open_rules::OpenRules;
 use crate::verdicts::{RuleAt, Verdict};
 use enf_data::event_sets::EventSet;
 use enf_data::memory::NoMemory;
+use enf_data::seeds::Seed;
 use enf_formula::laws::dependence;
 use enforce_types::TypedPolicy;
 use monitorable_guard::StepEvents;
@@ -78,14 +79,26 @@ impl<'p> Auditor<'p> {
         ensures made { IfOk result (IsNewAuditor policy.now) }
         ensures stands { IfOk result (λ auditor. Audits auditor []) }
     {
-        let past = PastState::new(alloc, policy.guards())?;
+        Auditor::seeded(alloc, Seed::known(), policy)
+    }
+
+    /// So too, where a stranger chooses the events: who does not know the seed cannot choose such as take it long.
+    pub fn seeded(
+        alloc: Global,
+        seed: Seed,
+        policy: &'p TypedPolicy,
+    ) -> Result<Auditor<'p>, NoMemory>
+        ensures made { IfOk result (IsNewAuditor policy.now) }
+        ensures stands { IfOk result (λ auditor. Audits auditor []) }
+    {
+        let past = PastState::seeded(alloc, seed, policy.guards())?;
         Ok(Auditor {
             policy,
             past,
             position: 0,
             last: 0,
             followed: Followed {
-                asked: OpenRules::new(alloc),
+                asked: OpenRules::new(alloc, seed),
                 broken: None,
             },
         })

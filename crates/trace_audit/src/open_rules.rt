@@ -11,6 +11,7 @@ use crate::residuals::Residual;
 use crate::verdicts::RuleAt;
 use crate::waking::wakes_of;
 use enf_data::memory::NoMemory;
+use enf_data::seeds::Seed;
 use sleepers::{Beginning, Entry, Place, Sleepers};
 use std::alloc::Global;
 use std::marker::Model;
@@ -56,12 +57,12 @@ impl<'p> Model for OpenRules<'p> {
 }
 
 impl<'p> OpenRules<'p> {
-    // No rule is open.
-    pub fn new(alloc: Global) -> OpenRules<'p>
+    // No rule is open. What an event wakes is found by hashes from the seed on.
+    pub fn new(alloc: Global, seed: Seed) -> OpenRules<'p>
         ensures { result ≡ [] }
     {
         let slots = Vec::new(alloc);
-        let sleepers = Sleepers::new(alloc);
+        let sleepers = Sleepers::new(alloc, seed);
         OpenRules {
             slots,
             free: Vec::new(alloc),

@@ -12,7 +12,7 @@ use Rattle.windows.proofs.EntryLemmas.{fit_of, least_of, served_by, served_on}
 use Rattle.windows.proofs.HeldLemmas.{held_more, none_held, nothing_at_first, one_step_more}
 use Rattle.windows.proofs.LeastLemmas.{least_is_chosen}
 use Rattle.windows.proofs.KeptTimeLemmas.{chosen_of_all, ended_later, kept_if_chosen, served_later}
-use Rattle.windows.proofs.TimeLemmas.{least_live}
+use Rattle.windows.proofs.TimeLemmas.{itself, least_live}
 use Rattle.windows.specs.machine.RowIndexes.{IsIndexOf, PartIndex}
 use Rattle.windows.specs.machine.WindowEntries.{rows_of}
 use Rattle.windows.specs.machine.RowTimes.{is_some_time}
@@ -343,6 +343,21 @@ module _ (interval : Interval) (columns : List VarId) (last time : ℕ) (es left
   pub is_committed_in : (window : Window) → record { interval = interval; columns = columns; last = last; kept = kept_entries es } ≡ window
       → IsCommittedBy window time (SurvivesFor s) right (record { interval = interval; columns = columns; last = time; kept = kept_entries after })
   is_committed_in window is = subst (λ w. IsCommittedBy w time (SurvivesFor s) right (record { interval = interval; columns = columns; last = time; kept = kept_entries after })) is is_committed
+
+-- a step at which no row is right and all survive
+pub is_passed_in : (interval : Interval) (columns : List VarId) (last time : ℕ) (es left after : List (List Value × List ℕ)) (right : Relation) → HasNoRepeats columns
+    → AreWindowEntries (length columns) last es → right.columns ≡ columns → right.rows ≡ [] → Forgets interval time es left → KeepsRows (λ row. Unit {0}) left after
+    → AreWindowEntries (length columns) time after → AreLeast interval time after → (window : Window)
+    → record { interval = interval; columns = columns; last = last; kept = kept_entries es } ≡ window
+    → IsCommittedBy window time (λ v. Unit {0}) right (record { interval = interval; columns = columns; last = time; kept = kept_entries after })
+is_passed_in interval columns last time es left after right distinct kept same none forgets keeps kept_after least_after window is =
+    is_committed_in interval columns last time es left after after Whole right distinct kept tt (λ _. tt) same forgets keeps
+    (record { from = λ row t has. inl has; behind = λ row t has. inl has })
+    (record {
+      serves = λ row t has. inl (itself interval.high interval.low time (HasTime after row) t has);
+      added = λ row there. absurd (none_in_nil row (subst (λ l. Contains l row) none there));
+    })
+    kept_after least_after window is
 
 -- what is kept is in some row with a time
 pub kept_is_had : (window : Window) → KeepsLeast window → (v : Valuation) → WindowKeeps window window.last v ↔ ((time : ℕ) × HasRow window v time)

@@ -4,7 +4,7 @@ ghost use Rattle.enf_data.specs.meaning.Membership.{HasNoRepeats};
 ghost use Rattle.windows.specs.machine.DueQueues.{IsQueueAt};
 ghost use Rattle.windows.specs.machine.RowIndexes.{IsIndexOf};
 ghost use Rattle.windows.specs.machine.WindowEntries.{AddAtMost, AddsTimes, AreLeast, AreWindowEntries};
-ghost use Rattle.windows.specs.machine.WindowEntries.{count_pairs, rows_of};
+ghost use Rattle.windows.specs.machine.WindowEntries.{KeepsRows, count_pairs, rows_of};
 ghost use Rattle.windows.specs.machine.Windows.{IsWindow};
 
 use crate::compaction::compact_if_many;
@@ -13,6 +13,7 @@ use crate::queue::DueQueue;
 use crate::row_index::RowIndex;
 use enf_data::intervals::Interval;
 use enf_data::memory::NoMemory;
+use enf_data::terms::VarId;
 use valuations::Table;
 
 // Adds the time to those of each row of the table. Where memory has run out, nothing is left.
@@ -59,6 +60,36 @@ fn let_all_go(entries: &mut Entries, index: &mut Option<RowIndex>, queue: &mut D
     entries.clear();
     *index = None;
     *queue = DueQueue::new(alloc);
+}
+
+// Takes out what is many beside the times. Where memory has run out, nothing is left.
+pub fn compact_step(
+    entries: &mut Entries,
+    index: &mut Option<RowIndex>,
+    queue: &mut DueQueue,
+    among: &[VarId],
+    interval: Interval,
+    now: u64,
+    pairs: usize,
+) -> Result<usize, NoMemory>
+    requires distinct { HasNoRepeats among.now }
+    requires kept { AreWindowEntries (length among.now) now entries.old.entries }
+    requires least { AreLeast interval now entries.old.entries }
+    requires indexed { IfSome index.old (IsIndexOf among.now (rows_of entries.old.entries)) }
+    requires queued { IsQueueAt interval now entries.old.entries queue.old }
+    requires counted { pairs ≤ count_pairs entries.old.entries }
+    ensures keeps { OnOk result (KeepsRows (λ row. Unit {0}) entries.old.entries entries.new.entries) }
+    ensures window { IfOk result (IsWindow interval among.now now entries.new.entries queue.new index.new) }
+    ensures none { OnErr result ((entries.new.entries ≡ []) × (index.new ≡ None)
+        × (queue.new ≡ record { dues = []; far = 0 })) }
+{
+    match compact_if_many(entries, index, queue, among, interval, now, pairs) {
+        Ok(left) => Ok(left),
+        Err(error) => {
+            let_all_go(entries, index, queue);
+            Err(error)
+        }
+    }
 }
 
 fn add_and_compact(

@@ -58,7 +58,7 @@ fn copy_entries(alloc: Global, entries: &Entries) -> Result<Entries, NoMemory>
     requires { HasNoRepeats (map (λ e. e.0) entries.now.entries) }
     ensures { IfOk result (λ copy. copy.entries ≡ entries.now.entries) }
 {
-    let mut copy = IndexMap::with_capacity(alloc, entries.len())?;
+    let mut copy = IndexMap::with_capacity_and_hasher(alloc, entries.len(), *entries.hasher())?;
     for (row, times) in entries.iter() {
         copy_entry(alloc, row, times, &mut copy)?;
     }

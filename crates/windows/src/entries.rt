@@ -21,13 +21,14 @@ use enf_data::intervals::Interval;
 use enf_data::items::Duplicate;
 use enf_data::memory::NoMemory;
 use enf_data::rows::Row;
+use enf_data::seeds::Seed;
 use enf_data::terms::VarId;
 use indexmap::IndexMap;
 use std::alloc::Global;
 use valuations::Table;
 
 /// Rows, each with its times.
-pub type Entries = IndexMap<Row, Times>;
+pub type Entries = IndexMap<Row, Times, Seed>;
 
 // Adds the time to those of the row. A row that is not there goes last. There are at least so many times as `pairs`,
 // and then as the answer.

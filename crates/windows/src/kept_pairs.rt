@@ -17,6 +17,7 @@ use enf_data::intervals::Interval;
 use enf_data::items::Duplicate;
 use enf_data::memory::NoMemory;
 use enf_data::rows::Row;
+use enf_data::seeds::Seed;
 use enf_data::terms::Vars;
 use indexmap::IndexMap;
 use std::alloc::Global;
@@ -51,9 +52,11 @@ impl SinceWindow {
     }
 
     /// The window that keeps these pairs, with this last time. The columns are distinct, and the pairs are such as
-    /// `kept` gives of a window of this interval and these columns at that time.
+    /// `kept` gives of a window of this interval and these columns at that time. Rows are found by hashes from the seed
+    /// on.
     pub fn from_kept(
         alloc: Global,
+        seed: Seed,
         interval: Interval,
         columns: Vars,
         last: u64,
@@ -67,7 +70,7 @@ impl SinceWindow {
         ensures exact { IfOk result (λ w. ArePairsOf w pairs.items) }
         ensures least { IfOk result KeepsLeast }
     {
-        let entries = entries_of(alloc, pairs)?;
+        let entries = entries_of(alloc, seed, pairs)?;
         let queue = queue_of(alloc, interval, last, &entries)?;
         let pairs = count(&entries);
         Ok(SinceWindow {
@@ -188,11 +191,11 @@ fn push_step(
 }
 
 // The rows of the pairs, each with its times.
-fn entries_of(alloc: Global, pairs: Vec<KeptPair>) -> Result<Entries, NoMemory>
+fn entries_of(alloc: Global, seed: Seed, pairs: Vec<KeptPair>) -> Result<Entries, NoMemory>
     requires { AreRising pairs.items }
     ensures { IfOk result (λ entries. AreEntriesOf pairs.items entries.entries) }
 {
-    let mut entries = IndexMap::new(alloc);
+    let mut entries = IndexMap::with_hasher(alloc, seed);
     for pair in pairs {
         put_time(alloc, &mut entries, pair)?;
     }

@@ -1,8 +1,8 @@
 //! Slots of the operator `prev`.
-ghost use Rattle.std.specs.Prelude.{◌≡◌, ◌↔◌, None, Some, IfOk};
+ghost use Rattle.std.specs.Prelude.{◌≡◌, ◌↔◌, [], None, Some, IfOk, IsTrue};
 ghost use Rattle.enf_data.specs.meaning.Membership.{HasNoRepeats};
 ghost use Rattle.enf_data.specs.meaning.Valuations.{Valuation as Bound};
-ghost use Rattle.valuations.specs.machine.Tables.{IsTable, HasValuation};
+ghost use Rattle.valuations.specs.machine.Tables.{IsTable, HasValuation, Relation};
 
 use crate::row_answers::no_rows;
 use crate::steps::LastStep;
@@ -12,6 +12,7 @@ use enf_data::memory::NoMemory;
 use enf_data::terms::Vars;
 use std::alloc::Global;
 use std::marker::Model;
+use std::mem::replace;
 use valuations::Table;
 
 /// The rows of the step that was committed last, where there is one.
@@ -37,7 +38,7 @@ impl Model for PrevSlot {
 }
 
 impl PrevSlot {
-    ghost use Rattle.windows.specs.machine.Slots.{IsUpToTime, GivesLast, with_rows};
+    ghost use Rattle.windows.specs.machine.Slots.{IsBareSlot, IsUpToTime, GivesLast, with_rows};
 
     /// No step is committed. The columns are distinct.
     pub fn new(interval: Interval, columns: Vars) -> PrevSlot
@@ -89,5 +90,29 @@ impl PrevSlot {
         ensures { self.new ≡ record self.old { last = Some (with_rows time rows) } }
     {
         self.last = Some(LastStep { time, rows });
+    }
+
+    /// Whether a step is committed, and the last one has no rows.
+    pub fn is_bare(&self) -> bool
+        ensures { IsTrue result → IsBareSlot self.now }
+    {
+        match &self.last {
+            Some(last) => last.rows.is_empty(),
+            None => false,
+        }
+    }
+
+    /// Makes a step the last one that has no rows, where the one before has none. That one is not later.
+    pub fn pass(&mut self, time: u64)
+        requires later { IsUpToTime time self.old.last }
+        requires bare { IsBareSlot self.old }
+        ensures { (rows : Relation) → rows.columns ≡ self.old.columns → rows.rows ≡ []
+            → self.new ≡ record self.old { last = Some (with_rows time rows) } }
+    {
+        let Some(last) = replace(&mut self.last, None) else {
+            return;
+        };
+        let LastStep { rows, .. } = last;
+        self.commit(time, rows);
     }
 }

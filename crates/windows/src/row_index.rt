@@ -15,17 +15,20 @@ use crate::row_query::{RowQuery, row_of};
 use enf_data::items::Duplicate;
 use enf_data::memory::NoMemory;
 use enf_data::rows::Row;
+use enf_data::seeds::Seed;
 use enf_data::terms::{VarId, Vars};
 use indexmap::IndexMap;
 use std::alloc::Global;
 use std::marker::Model;
 use valuations::{Frame, Lookup, Valuation};
 
+type Buckets = IndexMap<Row, Bucket, Seed>;
+
 /// By their values of some columns, the places of rows.
 #[derive(Debug, Drop)]
 pub struct RowIndex {
     columns: Vars,
-    buckets: IndexMap<Row, Bucket>,
+    buckets: Buckets,
 }
 
 impl Model for RowIndex {
@@ -52,12 +55,12 @@ impl Model for Bucket {
 
 impl RowIndex {
     // No place is noted.
-    pub fn new(alloc: Global, columns: Vars) -> RowIndex
+    pub fn new(alloc: Global, seed: Seed, columns: Vars) -> RowIndex
         ensures { result ≡ record { columns = columns; buckets = [] } }
     {
         RowIndex {
             columns,
-            buckets: IndexMap::new(alloc),
+            buckets: IndexMap::with_hasher(alloc, seed),
         }
     }
 
@@ -128,7 +131,7 @@ impl RowIndex {
         requires fit { All (λ e. length e.0 ≡ length among.now) entries.now.entries }
         ensures { IfOk result (λ index. IsIndexOf among.now (rows_of entries.now.entries) index) }
     {
-        let mut index = RowIndex::new(alloc, columns);
+        let mut index = RowIndex::new(alloc, *entries.hasher(), columns);
         let mut place = 0;
         for row in entries.keys() {
             index.note(alloc, among, row, place)?;
@@ -216,7 +219,7 @@ impl Bucket {
 // Puts the place into the bucket of these values, where they are all there.
 fn note_in<V: Lookup>(
     alloc: Global,
-    buckets: &mut IndexMap<Row, Bucket>,
+    buckets: &mut Buckets,
     query: RowQuery<'_, V>,
     place: usize,
 ) -> Result<(), NoMemory>
@@ -233,7 +236,7 @@ fn note_in<V: Lookup>(
 // So too, where these values have no bucket yet.
 fn note_first<V: Lookup>(
     alloc: Global,
-    buckets: &mut IndexMap<Row, Bucket>,
+    buckets: &mut Buckets,
     query: RowQuery<'_, V>,
     place: usize,
 ) -> Result<(), NoMemory>

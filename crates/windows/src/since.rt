@@ -2,9 +2,9 @@
 ghost use Rattle.std.specs.Prelude.{◌≡◌, ◌↔◌, ◌≤◌, ◌+◌, ◌*◌, ℕ, [], IfOk, OnOk, length};
 ghost use Rattle.enf_data.specs.meaning.Membership.{HasNoRepeats};
 ghost use Rattle.enf_data.specs.meaning.Valuations.{Valuation as Bound};
-ghost use Rattle.valuations.specs.machine.Tables.{IsTable, HasValuation};
+ghost use Rattle.valuations.specs.machine.Tables.{IsTable, HasValuation, Relation};
 
-use crate::commits::add_step;
+use crate::commits::{add_step, compact_step};
 use crate::entries::{Entries, keep_surviving, push_all, push_given, push_now};
 use crate::expiry::forget_dues;
 use crate::queue::DueQueue;
@@ -14,6 +14,7 @@ use enf_data::intervals::Interval;
 use enf_data::items::Duplicate;
 use enf_data::memory::NoMemory;
 use enf_data::rows::Row;
+use enf_data::seeds::Seed;
 use enf_data::terms::Vars;
 use indexmap::IndexMap;
 use std::alloc::Global;
@@ -70,7 +71,7 @@ impl SinceWindow {
             interval,
             columns,
             last: 0,
-            entries: IndexMap::new(alloc),
+            entries: IndexMap::with_hasher(alloc, Seed::known()),
             queue: DueQueue::new(alloc),
             index: None,
             pairs: 0,
@@ -230,6 +231,42 @@ impl SinceWindow {
             left,
         );
         match added {
+            Ok(pairs) => {
+                self.pairs = pairs;
+                Ok(())
+            }
+            Err(error) => {
+                self.pairs = 0;
+                Err(error)
+            }
+        }
+    }
+
+    /// Makes a step the last one at which no row is right and all that are kept survive.
+    pub fn pass(&mut self, time: u64) -> Result<(), NoMemory>
+        requires later { self.old.last ≤ time }
+        ensures ok { OnOk result ((right : Relation) → right.columns ≡ self.old.columns → right.rows ≡ []
+            → IsCommittedBy self.old time (λ v. Unit {0}) right self.new) }
+        ensures kind { IsSameKind self.old self.new }
+    {
+        let left = forget_dues(
+            &mut self.entries,
+            &mut self.queue,
+            self.interval,
+            time,
+            self.pairs,
+        );
+        self.last = time;
+        let compacted = compact_step(
+            &mut self.entries,
+            &mut self.index,
+            &mut self.queue,
+            self.columns.as_slice(),
+            self.interval,
+            time,
+            left,
+        );
+        match compacted {
             Ok(pairs) => {
                 self.pairs = pairs;
                 Ok(())

@@ -16,24 +16,47 @@ use Rattle.obligations.specs.declared.actions.Action.{Action}
 use Rattle.obligations.specs.declared.instances.Instance.{Instance}
 use Rattle.obligations.specs.machine.AskablePlans.{CanAskOf, CanAskRoots}
 use Rattle.obligations.specs.machine.PlanClasses.{PlansStand}
+use Rattle.obligations.specs.machine.Successors.{LeadsAt}
 use Rattle.obligations.specs.meaning.Pending.{PendingAfter, HasDeadline, NoneIsOver, Pend}
+use Rattle.pending.specs.machine.Moments.{step_moment}
+use Rattle.pending.specs.machine.PendingLists.{IsPendingListOf, PendingList}
+use Rattle.pending.specs.machine.Waits.{SleepsNow}
+use Rattle.sleepers.specs.machine.Entries.{AllButThose}
 use Rattle.choice_step.specs.machine.ActionChains.{ActsFrom}
 use Rattle.choice_step.specs.machine.RuleTriggers.{AllSleep}
 use Rattle.choice_step.specs.meaning.ActedSteps.{ActedStep, change_of}
 use Rattle.choice_step.specs.meaning.Choice.{Decides, trace_with_step, MissesNothing, all_asked}
 use Rattle.choice_step.specs.meaning.Follows.{Follows, FollowsDrain, GoesOut, IsLeastDeadline, InsertsSteps}
 
--- where nothing is pending and no event wakes a rule, nothing is done at the step, if the rules can be asked
+-- all that is pending sleeps at a step, and no event wakes a rule; what is pending and the rules can be asked
+pub record AllAreAsleep (guards : List (Formula × List VarId)) (plans : List Plan) (inserted : Bool) (time : ℕ)
+    (events : List Event) (pending : PendingList) : Type 0 where
+  pub roots : CanAskRoots guards plans
+  pub instances : AllByRecursion (CanAskOf guards plans) pending.instances
+  pub kept : IsPendingListOf plans pending
+  pub sleep : AllButThose (SleepsNow events (step_moment inserted time)) pending.listed []
+  pub rules : AllSleep (map waking_names plans) events
+
+-- then nothing is done there
 abbrev pub AsleepDecidesNothing : Type 0
 AsleepDecidesNothing = (guards : List (Formula × List VarId)) (plans : List Plan) (trace : List Step)
-    (inserted : Bool) (time : ℕ) (events : List Event) → CanAskRoots guards plans
-    → AllSleep (map waking_names plans) events → Decides plans trace [] inserted time events [] events
+    (inserted : Bool) (time : ℕ) (events : List Event) (pending : PendingList)
+    → AllAreAsleep guards plans inserted time events pending
+    → Decides plans trace pending.instances inserted time events [] events
 
--- where nothing is pending and no event wakes a rule, the step begins nothing, if the rules can be asked
-abbrev pub AsleepBeginsNothing : Type 0
-AsleepBeginsNothing = (guards : List (Formula × List VarId)) (plans : List Plan) (trace : List Step) (time : ℕ)
-    (events : List Event) → CanAskRoots guards plans → AllSleep (map waking_names plans) events
-    → PendingAfter plans (trace_with_step trace time events) [] []
+-- what is pending stays as it is, and nothing is begun
+abbrev pub AsleepChangesNothing : Type 0
+AsleepChangesNothing = (guards : List (Formula × List VarId)) (plans : List Plan) (trace : List Step)
+    (inserted : Bool) (time : ℕ) (events : List Event) (pending : PendingList)
+    → AllAreAsleep guards plans inserted time events pending
+    → PendingAfter plans (trace_with_step trace time events) pending.instances pending.instances
+
+-- each comes of itself
+abbrev pub AsleepComeOfThemselves : Type 0
+AsleepComeOfThemselves = (guards : List (Formula × List VarId)) (plans : List Plan) (inserted : Bool)
+    (time position : ℕ) (events : List Event) (pending : PendingList)
+    → AllAreAsleep guards plans inserted time events pending
+    → LeadsAt events time position plans inserted pending.instances pending.instances
 
 -- at most one decision fits the rules at a step without repeats
 abbrev pub DecidesIsOne : Type 0

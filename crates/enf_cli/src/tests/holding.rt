@@ -1,9 +1,9 @@
-//! Runs over a gate that holds back what it is given, and fails at a flush.
+//! Runs over a gate that holds back what it is given, and lacks memory at a write or fails at a flush.
 ghost use Rattle.std.specs.Prelude.{◌≡◌, Ok, Some};
 ghost use Rattle.enf_io.specs.meaning.Exchange.{Stream};
 ghost use Rattle.enf_io.specs.machine.StreamCalls.{Flushes, Reads, Writes};
 
-use super::calm::{DELETED_AT_35, ERASE, SIGNATURE, enforce_words, files_of};
+use super::calm::{DELETED_AT_35, ERASE, SIGNATURE, files_of, words_of};
 use enf_io::calm_gate::CalmGate;
 use enf_io::calm_sink::CalmSink;
 use enf_io::devices::{Gate, IoRefusal, NoMemory, Sink};
@@ -12,14 +12,18 @@ use enf_run::run::run;
 use std::alloc::Global;
 use std::test::Fail;
 
-/// A gate over memory that holds back what it is given until it is flushed. Of the flushes with something to hand on
-/// the one with a number fails.
+// How many bytes the gate takes at most at a write.
+const MOST_TAKEN: usize = 4;
+
+/// A gate over memory that takes a few bytes a write and holds them back until it is flushed. The write with a number
+/// finds no memory, and of the flushes with something to hand on the one with a number fails.
 #[derive(Drop)]
 struct HoldingGate {
     gate: CalmGate,
     held: usize,
     late_reads: u64,
     write_faults: u64,
+    lacking: usize,
     failing: usize,
 }
 
@@ -33,7 +37,12 @@ impl Sink for HoldingGate {
     } };
 
     fn write(&mut self, bytes: &[u8]) -> Result<usize, IoRefusal> {
-        let count = self.gate.write(bytes)?;
+        if self.lacking == 0 {
+            return Err(IoRefusal::NoMemory);
+        }
+        self.lacking -= 1;
+        let count = bytes.len().min(MOST_TAKEN);
+        self.gate.write(&bytes[..count])?;
         self.held = self.held.saturating_add(count);
         Ok(count)
     }
@@ -65,7 +74,8 @@ const LOG: &[u8] = b"@5 request(\"a\"); @40;";
 
 const ANSWER: &[u8] = b"@5 request(\"a\");\n+35 delete(\"a\");\n@40;\n";
 
-// What `erase` comes to on the log, where the first read takes so many bytes and the flush with a number fails.
+// What a call comes to on the log and `erase`, where the first read takes so many bytes, and this write finds no memory
+// and this flush fails.
 #[derive(Drop)]
 struct Held {
     status: Status,
@@ -73,8 +83,14 @@ struct Held {
     report: CalmSink,
 }
 
-fn enforced_holding(alloc: Global, cut: usize, failing: usize) -> Result<Held, NoMemory> {
-    let words = enforce_words(alloc)?;
+fn ran_holding(
+    alloc: Global,
+    line: &str,
+    cut: usize,
+    lacking: usize,
+    failing: usize,
+) -> Result<Held, NoMemory> {
+    let words = words_of(alloc, line)?;
     let mut files = files_of(alloc, SIGNATURE, ERASE)?;
     let pieces = Vec::from_slice(alloc, &[cut])?;
     let mut gate = HoldingGate {
@@ -82,6 +98,7 @@ fn enforced_holding(alloc: Global, cut: usize, failing: usize) -> Result<Held, N
         held: 0,
         late_reads: 0,
         write_faults: 0,
+        lacking,
         failing,
     };
     let mut report = CalmSink::new(alloc);
@@ -96,7 +113,7 @@ fn enforced_holding(alloc: Global, cut: usize, failing: usize) -> Result<Held, N
 #[test]
 fn all_is_handed_on_before_each_read_and_at_the_end(rt: HostRuntime) -> Result<(), Fail> {
     for cut in 1..LOG.len() {
-        let held = enforced_holding(rt.alloc(), cut, 9)?;
+        let held = ran_holding(rt.alloc(), "enforce sig pol", cut, 99, 9)?;
         assert!(rt; held.status == Status::Done, "cut after {cut}");
         assert!(rt;
             held.gate.gate.given() == ANSWER,
@@ -129,10 +146,32 @@ fn a_flush_that_fails_ends_the_run(rt: HostRuntime) -> Result<(), Fail> {
             b"",
         ),
     ] {
-        let held = enforced_holding(rt.alloc(), cut, failing)?;
+        let held = ran_holding(rt.alloc(), "enforce sig pol", cut, 99, failing)?;
         assert!(rt; held.status == Status::WriteFault, "{name}");
         assert!(rt; held.gate.gate.given() == output, "{name}: the output");
         assert!(rt; held.report.given() == report, "{name}: the report");
+    }
+    Ok(())
+}
+
+#[test]
+fn all_is_handed_on_where_memory_runs_out(rt: HostRuntime) -> Result<(), Fail> {
+    for (line, output) in [
+        ("enforce sig pol", b"@5 r".as_slice()),
+        ("check sig pol", b"rule"),
+        ("audit sig pol", b"viol"),
+        ("gen 1 2", b"@6 d"),
+        ("drill 1 2", b"step"),
+    ] {
+        let handed = ran_holding(rt.alloc(), line, LOG.len(), 1, 9)?;
+        assert!(rt; handed.status == Status::NoMemory, "{line}");
+        assert!(rt; handed.gate.gate.given() == output, "{line}: the output");
+        assert!(rt; handed.gate.held == 0, "{line}: what is held");
+        let failed = ran_holding(rt.alloc(), line, LOG.len(), 1, 0)?;
+        assert!(rt;
+            failed.status == Status::WriteFault,
+            "{line}: a flush fails"
+        );
     }
     Ok(())
 }

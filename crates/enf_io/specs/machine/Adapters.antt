@@ -2,10 +2,11 @@
 use Rattle.std.specs.IoError.{error_kind}
 use Rattle.std.specs.Io.KnownBytes.{append_known}
 use Rattle.std.specs.Prelude.{ℕ, None, false, Result, Ok, Err, ◌==◌, List, [], ◌∷◌, if◌then◌else◌}
-use Rattle.std.specs.Prelude.{◌≡◌, ◌<◌, ◌++◌, ◌⊎◌, drop, length, IfErr, OnOk, Option}
+use Rattle.std.specs.Prelude.{◌≡◌, ◌<◌, ◌++◌, ◌⊎◌, drop, length, ⊤, Contains, IfErr, OnOk, Option}
 use Rattle.std.specs.declared.io.Error.{Error}
 use Rattle.std.specs.declared.io.ErrorKind.{ErrorKind}
-use Rattle.std.specs.declared.io.ErrorKind.TheVariants.{OutOfMemory}
+use Rattle.std.specs.declared.io.ErrorKind.TheVariants.{Interrupted, OutOfMemory}
+use Rattle.enf_io.specs.declared.adapters.TheConstants.{MOST_INTERRUPTS}
 use Rattle.enf_io.specs.declared.devices.IoRefusal.{IoRefusal}
 use Rattle.enf_io.specs.declared.devices.IoRefusal.TheVariants.{Failed, NoMemory}
 use Rattle.enf_io.specs.meaning.Exchange.{Stream}
@@ -85,6 +86,42 @@ pub record IsOneCall {A B : Type 0} (gives : A → Type 0) (made : A → B) (res
   pub called : gives answer
   pub told : result ≡ made answer
 
+-- a call of the outside answers with an error of this kind
+abbrev pub FailsBy : {T : Type 0} → ErrorKind → Result T Error → Type 0
+FailsBy kind (Ok value) = ⊥
+FailsBy kind (Err error) = error_kind error ≡ kind
+
+-- it was interrupted: nothing failed, and nothing was done
+abbrev pub WasInterrupted : {T : Type 0} → Result T Error → Type 0
+WasInterrupted answer = FailsBy Interrupted answer
+
+-- calls of the outside, one after another, which were interrupted
+abbrev pub AreInterrupted : {O : Type 0} → (O → List ℕ → Result ℕ Error → O → Type 0) → (passed : List (List ℕ))
+    → O → O → Type 0
+AreInterrupted gives [] before after = after ≡ before
+AreInterrupted {O = O} gives (bytes ∷ passed) before after = (answer : Result ℕ Error) × (between : O)
+    × WasInterrupted answer × gives before bytes answer between × AreInterrupted gives passed between after
+
+-- a call of the outside that is done again while it is interrupted, up to so often, with bytes of which this holds
+pub record DoneAgain {O : Type 0} (Alike : List ℕ → Type 0) (gives : O → List ℕ → Result ℕ Error → O → Type 0)
+    (before : O) (bytes : List ℕ) (answer : Result ℕ Error) (after : O) : Type 0 where
+  pub passed : List (List ℕ)
+  pub between : O
+  pub interrupted : AreInterrupted gives passed before between
+  pub alike : (other : List ℕ) → Contains passed other → Alike other
+  pub called : gives between bytes answer after
+  pub often : WasInterrupted answer → length passed ≡ MOST_INTERRUPTS
+
+-- a read so, whatever an interrupted one left in the buffer
+abbrev pub ReadsAgain : {O : Type 0} → (O → List ℕ → Result ℕ Error → O → Type 0) → O → List ℕ → Result ℕ Error → O
+    → Type 0
+ReadsAgain gives before buf answer after = DoneAgain (λ left. ⊤) gives before buf answer after
+
+-- a write so, of the same bytes
+abbrev pub WritesAgain : {O : Type 0} → (O → List ℕ → Result ℕ Error → O → Type 0) → O → List ℕ → Result ℕ Error → O
+    → Type 0
+WritesAgain gives before bytes answer after = DoneAgain (λ given. given ≡ bytes) gives before bytes answer after
+
 -- calls of a writer, one after another: each is given what those before it left, and takes so many bytes of that, not
 -- none
 abbrev pub TakesInTurns : {O : Type 0} → (O → List ℕ → Result ℕ Error → O → Type 0) → O → (bytes : List ℕ)
@@ -103,6 +140,18 @@ pub record HandsOn {O T : Type 0} (gives : O → List ℕ → Result ℕ Error �
   pub whole : OnOk result ((left ≡ []) × (after ≡ between))
   pub failed : IfErr result (λ why.
       IsOneCall (λ answer. gives between left answer after) (adapted_write left) (Err why))
+
+-- what a flush answers where what is held back was handed on so: each refusal is a fault of it
+abbrev pub flush_answer : {T : Type 0} → Result T IoRefusal → Result T IoRefusal
+flush_answer (Ok value) = Ok value
+flush_answer (Err why) = Err Failed
+
+-- a flush hands on what is held back
+pub record FlushesHeld {O T : Type 0} (gives : O → List ℕ → Result ℕ Error → O → Type 0) (result : Result T IoRefusal)
+    (held left : List ℕ) (before after : O) : Type 0 where
+  pub handed : Result T IoRefusal
+  pub calls : HandsOn gives handed held left before after
+  pub told : result ≡ flush_answer handed
 
 -- a piece was kept behind what is held back, with no call
 pub record KeepsPiece {O : Type 0} (bytes : List ℕ) (result : Result ℕ IoRefusal) (held held' : List ℕ)

@@ -67,11 +67,13 @@ pub record Writes (bytes : List ℕ) (result : Result ℕ IoRefusal) (before aft
   pub held : after.held ≤ before.held + count_taken result
   pub late : after.late_reads ≡ before.late_reads
 
--- a flush: what is held back is handed on, all of it or at a refusal not all; no byte is taken or given
+-- a flush: what is held back is handed on, all of it or, where it fails, not all; no byte is taken or given. Want of
+-- memory is a fault of it too
 pub record Flushes {T : Type 0} (result : Result T IoRefusal) (before after : Stream) : Type 0 where
   pub told : after.told ≡ before.told
   pub whole : OnOk result (after.held ≡ 0)
   pub some_left : OnErr result (0 < after.held)
+  pub failed : IfErr result (λ why. why ≡ Failed)
   pub part : after.held ≤ before.held
   pub writes : after.write_faults ≡ faults_after result before.write_faults
   pub reads : after.read_faults ≡ before.read_faults

@@ -1,7 +1,6 @@
 -- What one record does to a drill, and how a drill ends.
 use Rattle.enf_data.specs.declared.terms.VarId.{VarId}
-use Rattle.std.specs.Prelude.{count_by, map, ◌+◌, List, ℕ, ◌≤◌, ◌≡◌, false, [], ◌*◌, ◌^◌, length, Option, ◌⊎◌}
-use Rattle.enf_io.specs.meaning.Exchange.{Exchange}
+use Rattle.std.specs.Prelude.{count_by, map, ◌+◌, List, ℕ, ◌≤◌, ◌≡◌, false, [], ◌*◌, ◌^◌, length}
 use Rattle.enf_formula.specs.meaning.Satisfaction.{Formula}
 use Rattle.trace_meaning.specs.meaning.Traces.{Record}
 use Rattle.past_state.specs.meaning.KeptRows.{all_operators}
@@ -19,12 +18,9 @@ use Rattle.enforcer_core.specs.machine.Stands.{Stands, FollowsDrainFrom}
 use Rattle.enf_run.specs.declared.drills.Drill.{Drill}
 use Rattle.enf_run.specs.declared.drills.Drilled.{Drilled}
 use Rattle.enf_run.specs.declared.drills.Tally.{Tally}
-use Rattle.enf_run.specs.declared.endings.Cut.{Cut}
 use Rattle.enf_run.specs.machine.LogRunEnds.{HasPlans}
 use Rattle.enf_run.specs.meaning.Headline.{all_formulas}
-use Rattle.enf_run.specs.meaning.Reports.{DrillFinds, is_cause, is_suppression, tally_of, SaysDrillLine}
-use Rattle.enf_run.specs.meaning.Reports.{AddsPart}
-use Rattle.enf_run.specs.declared.endings.Cut.TheVariants as cuts
+use Rattle.enf_run.specs.meaning.Reports.{DrillFinds, is_cause, is_suppression, tally_of}
 
 -- how many of the actions cause an event, and how many suppress one
 abbrev pub causes_in : List Action → ℕ
@@ -85,9 +81,3 @@ pub record FinishesDrill (before : Drill) (found : Drilled) : Type 0 where
   pub last : List ActedStep
   pub drained : FollowsDrainFrom before.enforcer last
   pub tally : found.tally ≡ tally_with before.tally last
-
--- what was given where a drill was cut
-abbrev pub CutsDrill : (start steps : ℕ) → Option Exchange → Option Exchange → Cut → Type 0
-CutsDrill start steps before after cuts.WriteFault = SaysDrillLine AddsPart start steps before after
-CutsDrill start steps before after cuts.NoMemory =
-    SaysDrillLine AddsPart start steps before after ⊎ (after ≡ before)

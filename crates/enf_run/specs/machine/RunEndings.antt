@@ -1,5 +1,5 @@
 -- Why the parts of a run end before they are done, with the status and what the report has then.
-use Rattle.std.specs.Prelude.{ℕ, Result, Ok, Err, List, Option, ◌≡◌, ◌⊎◌, ◌<◌, OnErr, OnOk}
+use Rattle.std.specs.Prelude.{ℕ, Result, Ok, Err, List, Option, ◌≡◌, ◌⊎◌, ◌<◌, IfErr, OnErr, OnOk}
 use Rattle.enf_io.specs.declared.devices.IoRefusal.{IoRefusal}
 use Rattle.enf_io.specs.declared.writing.WriteRefusal.{WriteRefusal}
 use Rattle.enf_io.specs.meaning.Exchange.{Exchange, Stream}
@@ -15,6 +15,7 @@ use Rattle.enf_run.specs.declared.refusals.Refusal.TheVariants.{ReadFault}
 use Rattle.enf_run.specs.declared.refusals.SignatureRefusal.{SignatureRefusal}
 use Rattle.enf_run.specs.declared.refusals.StateRefusal.{StateRefusal}
 use Rattle.enf_run.specs.declared.refusals.Status.{Status}
+use Rattle.enf_run.specs.meaning.HandedOn.{IsHandedOn}
 use Rattle.enf_run.specs.meaning.Reports.{none_more, refusal_status, text_of_refusal, AddsPart}
 use Rattle.enf_run.specs.meaning.Reports.{IsReported, IsReportedInPart, SaysNoMemory}
 use Rattle.enf_io.specs.declared.writing.WriteRefusal.TheVariants as writes
@@ -94,23 +95,31 @@ pub record WritesText {T : Type 0} (text : List ℕ) (result : Result T Cut) (be
   pub reads : after.read_faults ≡ before.read_faults
   pub late : after.late_reads ≡ before.late_reads
 
--- what the gate held back was handed on, all of it or, where that was cut, not all; nothing was taken or given
-pub record HandsOver {T : Type 0} (result : Result T Cut) (before after : Stream) : Type 0 where
+-- what the gate held back was handed on, all of it or, where that failed, not all; nothing was taken or given
+pub record FlushesGate {T : Type 0} (result : Result T Cut) (before after : Stream) : Type 0 where
   pub told : after.told ≡ before.told
   pub whole : OnOk result (after.held ≡ 0)
   pub some_left : OnErr result (0 < after.held)
+  pub failed : IfErr result (λ cut. cut ≡ cuts.WriteFault)
   pub writes : after.write_faults ≡ write_faults_behind result before.write_faults
   pub reads : after.read_faults ≡ before.read_faults
   pub late : after.late_reads ≡ before.late_reads
 
--- as `IsHandedOn`, of how the work of a run ends
-pub record IsHandedOver {T : Type 0} (before after : Stream) (result : Result T Ending) : Type 0 where
-  pub at_each_read : after.late_reads ≡ before.late_reads
-  pub at_the_end : (after.held ≡ 0) ⊎ ((result ≡ Err (endings.Cut cuts.WriteFault))
-      ⊎ (result ≡ Err (endings.Cut cuts.NoMemory)))
+-- what the gate held back was handed on after output that ended as given, unless a write failed in it; it ends as
+-- given, or by a failed write where not all was handed on
+pub record FlushesAfter {T : Type 0} (given result : Result T Cut) (before after : Stream) : Type 0 where
+  pub told : after.told ≡ before.told
+  pub ends : (result ≡ given) ⊎ (0 < after.held)
+  pub whole : (after.held ≡ 0) ⊎ (result ≡ Err cuts.WriteFault)
+  pub writes : (count : ℕ) → before.write_faults ≡ write_faults_behind given count
+      → after.write_faults ≡ write_faults_behind result count
+  pub reads : after.read_faults ≡ before.read_faults
+  pub late : after.late_reads ≡ before.late_reads
 
+-- as `HandsOnAll`, of how the work of a run ends
 abbrev pub HandsOnWork : {T : Type 0} → (before after : Stream) → Result T Ending → Type 0
-HandsOnWork before after result = before.held ≡ 0 → IsHandedOver before after result
+HandsOnWork before after result =
+    before.held ≡ 0 → IsHandedOn (result ≡ Err (endings.Cut cuts.WriteFault)) before after
 
 -- the line is on the report with its status, or a part of it where memory ran out
 abbrev pub ReportsRefusal : Refusal → Stream → Stream → Status → Type 0

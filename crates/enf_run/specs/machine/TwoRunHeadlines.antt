@@ -42,28 +42,31 @@ abbrev pub KeptBehindSaved : Type 0
 KeptBehindSaved = (entries : List NameEntry) (rules : List Rule) (start : Start) (signature policy file : List ℕ)
     (files : List ℕ → Contents) (told : Option (List ℕ → Contents)) (gate gate' : Stream)
     (taken given said : List ℕ)
-    → (first : IsKeptAtSave entries rules start signature policy file files told gate gate' taken given said)
+    → (first : IsKeptAtSave entries rules start signature policy file files told gate gate' taken given
+    (λ lines. said ≡ lines))
     → (next next' : Stream) (result : Status) (taken' given' said' : List ℕ)
-    → (second : IsKeptToEnd entries rules (start_after start first.answered) next next' result taken' given' said')
+    → (second : IsKeptToEnd entries rules (start_after start first.answered) next next' result taken' given'
+    (λ lines. said' ≡ lines))
     → length (taken ++ taken') < most_log_bytes
     → (last : List ℕ)
     × IsLastBehind (length first.answered.read) (length second.answered.read + 1) result second.last last
     × IsKeptToEnd entries rules start next next' result (taken ++ taken') (given ++ given')
-    (said ++ (action_lines entries rules second.answered.out ++ last))
+    (λ lines. said ++ (action_lines entries rules second.answered.out ++ last) ≡ lines)
 
 -- what is kept of a log after one that was saved is kept of both logs as of one, where the second run is saved again
 abbrev pub SavedBehindSaved : Type 0
 SavedBehindSaved = (entries : List NameEntry) (rules : List Rule) (start : Start) (signature policy file : List ℕ)
     (files : List ℕ → Contents) (told : Option (List ℕ → Contents)) (gate gate' : Stream)
     (taken given said : List ℕ)
-    → (first : IsKeptAtSave entries rules start signature policy file files told gate gate' taken given said)
+    → (first : IsKeptAtSave entries rules start signature policy file files told gate gate' taken given
+    (λ lines. said ≡ lines))
     → (file' : List ℕ) (files' : List ℕ → Contents) (told' : Option (List ℕ → Contents))
     (next next' : Stream) (taken' given' said' : List ℕ)
     → IsKeptAtSave entries rules (start_after start first.answered) signature policy file' files' told' next next'
-    taken' given' said'
+    taken' given' (λ lines. said' ≡ lines)
     → length (taken ++ taken') < most_log_bytes
     → IsKeptAtSave entries rules start signature policy file' files' told' next next'
-    (taken ++ taken') (given ++ given') (said ++ said')
+    (taken ++ taken') (given ++ given') (λ lines. said ++ said' ≡ lines)
 
 -- a second run is asked to go on from where the first has come to, where its words name a file that holds the state
 -- that was saved, and the same signature and policy: what is said of that run holds from there
@@ -72,7 +75,7 @@ SavedIsAsked = (words : List (List ℕ)) (told : Option (List ℕ → Contents))
     (entries : List NameEntry) (rules : List Rule) → (asked : IsAskedRun words told states start entries rules)
     → (file : List ℕ) (told' : Option (List ℕ → Contents)) (gate gate' : Stream) (taken given said : List ℕ)
     → (saved : IsKeptAtSave entries rules start asked.signature asked.policy file asked.files told' gate gate'
-    taken given said)
+    taken given (λ lines. said ≡ lines))
     → length (start.trace ++ trace_of (out_steps saved.answered.out)) < 2 ^ 63
     → (signature_file policy_file resumed : List ℕ) (to : Option (List ℕ)) (files : List ℕ → Contents)
     → files signature_file ≡ FileBytes asked.signature → files policy_file ≡ FileBytes asked.policy

@@ -200,30 +200,30 @@ step_action_lines entries rules step = flat_map (action_line entries rules) step
 abbrev pub action_lines : List NameEntry → List Rule → List ActedStep → List ℕ
 action_lines entries rules steps = flat_map (step_action_lines entries rules) steps
 
--- at the end: what was emitted is a trace that satisfies every rule at every position, each action has its line on the
--- report, and under the mark what was emitted is the steps of the records, as they came, where these satisfy the policy
+-- at the end: what was emitted is a trace that satisfies every rule at every position, the report says the lines of the
+-- actions, and under the mark what was emitted is the steps of the records, as they came, where these satisfy the policy
 pub record IsKeptToEnd (entries : List NameEntry) (rules : List Rule) (start : Start) (gate gate' : Stream)
-    (result : Status) (taken given said : List ℕ) : Type 0 where
+    (result : Status) (taken given : List ℕ) (Says : List ℕ → Type 0) : Type 0 where
   pub answered : IsAnsweredLog entries rules start taken given
   pub last : List ℕ
   pub ended : LogEndsWithStatus entries start.clock answered.read taken answered.rest last gate gate' result
   pub is_trace : IsTrace (start.trace ++ trace_of (out_steps answered.out))
   pub satisfied : Satisfies (start.trace ++ trace_of (out_steps answered.out)) (all_formulas rules)
-  pub reported : said ≡ action_lines entries rules answered.out ++ last
+  pub reported : Says (action_lines entries rules answered.out ++ last)
   pub alone : IsTransparentPolicy entries (all_formulas rules)
       → Satisfies (start.trace ++ recorded (records_of answered.read)) (all_formulas rules)
       → answered.out ≡ untouched (recorded (records_of answered.read))
 
--- at a save: the log was taken to its end, what was emitted is good so far, each action has its line on the report, and
--- the state after it stands under the name of its file, which alone has changed; it is one to start from as long as
--- its position is below 2^63, since a greater number has not the form
+-- at a save: the log was taken to its end, what was emitted is good so far, the report says the lines of the actions,
+-- and the state after it stands under the name of its file, which alone has changed; it is one to start from as long
+-- as its position is below 2^63, since a greater number has not the form
 pub record IsKeptAtSave (entries : List NameEntry) (rules : List Rule) (start : Start) (signature policy file : List ℕ)
     (files : List ℕ → Contents) (told : Option (List ℕ → Contents)) (gate gate' : Stream)
-    (taken given said : List ℕ) : Type 0 where
+    (taken given : List ℕ) (Says : List ℕ → Type 0) : Type 0 where
   pub answered : IsAnsweredLog entries rules start taken given
   pub ended : LogEndsWithStatus entries start.clock answered.read taken answered.rest [] gate gate' statuses.Done
   pub so_far : IsGoodSoFar entries rules start (records_of answered.read) answered.out
-  pub reported : said ≡ action_lines entries rules answered.out
+  pub reported : Says (action_lines entries rules answered.out)
   pub state : List ℕ
   pub is_state : IsStateText entries rules signature policy
       (start_behind start (records_of answered.read) (out_steps answered.out)) state
@@ -243,14 +243,14 @@ pub record Headline (words : List (List ℕ)) (files files' : FileView) (gate ga
     (result : Status) : Type 0 where
   pub at_the_end : (states : States) (start : Start) (entries : List NameEntry) (rules : List Rule)
       → IsAskedRun words files.contents states start entries rules → HasTakenLog states.saved gate gate' result
-      → OfCalls (λ log. OfCalls (λ said.
-      IsKeptToEnd entries rules start gate gate' result (taken_bytes log) log.given said.given
-      ) report.told report'.told) gate.told gate'.told
+      → OfCalls (λ log. IsKeptToEnd entries rules start gate gate' result (taken_bytes log) log.given
+      (λ lines. OfCalls (λ said. said.given ≡ lines) report.told report'.told)) gate.told gate'.told
   pub at_a_save : (states : States) (start : Start) (file : List ℕ) (entries : List NameEntry) (rules : List Rule)
       → (asked : IsAskedRun words files.contents states start entries rules) → states.saved ≡ Some file
-      → result ≡ statuses.Done → OfCalls (λ log. OfCalls (λ said.
+      → result ≡ statuses.Done → OfCalls (λ log.
       IsKeptAtSave entries rules start asked.signature asked.policy file asked.files files'.contents gate gate'
-      (taken_bytes log) log.given said.given) report.told report'.told) gate.told gate'.told
+      (taken_bytes log) log.given
+      (λ lines. OfCalls (λ said. said.given ≡ lines) report.told report'.told)) gate.told gate'.told
   pub at_each_read : (states : States) (start : Start) (entries : List NameEntry) (rules : List Rule)
       → IsAskedRun words files.contents states start entries rules
       → OfCalls (AtEachMark (IsKeptSoFar entries rules start)) gate.told gate'.told

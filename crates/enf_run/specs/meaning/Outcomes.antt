@@ -34,7 +34,7 @@ use Rattle.enf_run.specs.meaning.EnforceOutcomes.{RunsOutSaving, WritesRun}
 use Rattle.enf_run.specs.meaning.Headline.{all_formulas, records_of}
 use Rattle.enf_run.specs.meaning.Readings.{LogReading, ReadsLog, ReadsLogToEnd}
 use Rattle.enf_run.specs.meaning.Reports.{IsPart, SaysDrillLine, SaysDrillOrNothing, AddsOrHolds, AddsOrNothing}
-use Rattle.enf_run.specs.meaning.Reports.{none_more, LacksMemoryInRun, RefusesRun}
+use Rattle.enf_run.specs.meaning.Reports.{none_more, AddsPart, LacksMemoryInRun, RefusesRun}
 use Rattle.enf_run.specs.meaning.Sources.{AreBytesUnder, AsksPolicy, IsWholeLog, TellBytes, MissesFile}
 use Rattle.enf_run.specs.meaning.Sources.{RefusesPolicyFile, RefusesSignatureFile, RunsOutBefore, AsksRefusedFile}
 use Rattle.enf_run.specs.meaning.Sources.{MeetsReadFault, MeetsRefusedRecord, MeetsWriteFault}
@@ -172,12 +172,16 @@ pub record SaysVerdict {Gate : Type 0} (call : Call Gate) (report : Stream) (fou
   pub line : finds.audit.whole.log.given ≡ verdict_line finds.audit.policy found
   pub writes : call.after.gate.write_faults ≡ call.before.gate.write_faults
 
--- a front of the line of the verdict was given, not the whole, or some is held back; the count of write faults is this
-pub record SaysVerdictInPart {Gate : Type 0} (faults : ℕ → ℕ) (call : Call Gate) (report : Stream) : Type 0 where
+-- a text is given in part; or the whole of it, and so many bytes, not none, are held back
+abbrev pub IsPartOrHeld : (held : ℕ) → (given text : List ℕ) → Type 0
+IsPartOrHeld held given text = IsPart given text ⊎ ((given ≡ text) × (0 < held))
+
+-- of the line of the verdict so much was given, and the count of write faults is this
+pub record SaysVerdictInPart {Gate : Type 0} (IsSaid : (given line : List ℕ) → Type 0) (faults : ℕ → ℕ)
+    (call : Call Gate) (report : Stream) : Type 0 where
   pub found : Found
   pub finds : FindsVerdict call report found
-  pub part : IsPart finds.audit.whole.log.given (verdict_line finds.audit.policy found)
-      ⊎ ((finds.audit.whole.log.given ≡ verdict_line finds.audit.policy found) × (0 < call.after.gate.held))
+  pub part : IsSaid finds.audit.whole.log.given (verdict_line finds.audit.policy found)
   pub writes : call.after.gate.write_faults ≡ faults call.before.gate.write_faults
 
 -- memory ran out within the log, and nothing was given
@@ -230,13 +234,11 @@ RefusedOf form call report other = ⊥
 abbrev pub LacksOf : {Gate : Type 0} → Form → Call Gate → Stream → Type 0
 LacksOf Enforce call report = RunsOutBefore NamesEnforce call report
     ⊎ (CutsLog call report cuts.NoMemory ⊎ RunsOutSaving call report)
-LacksOf Check call report = RunsOutBefore IsCheckForm call report
-    ⊎ GivesCheckText (AddsOrHolds call.after.gate.held) none_more call report
+LacksOf Check call report = RunsOutBefore IsCheckForm call report ⊎ GivesCheckText AddsPart none_more call report
 LacksOf Audit call report = RunsOutBefore IsAuditForm call report
-    ⊎ (RunsOutAuditing call report ⊎ SaysVerdictInPart none_more call report)
-LacksOf Generate call report =
-    GivesFor IsGenerateForm (GivesLog (AddsOrNothing call.after.gate.held)) none_more call report
-LacksOf Drill call report = GivesFor IsDrillForm (SaysDrillOrNothing call.after.gate.held) none_more call report
+    ⊎ (RunsOutAuditing call report ⊎ SaysVerdictInPart IsPart none_more call report)
+LacksOf Generate call report = GivesFor IsGenerateForm (GivesLog AddsOrNothing) none_more call report
+LacksOf Drill call report = GivesFor IsDrillForm SaysDrillOrNothing none_more call report
 LacksOf NoForm call report = ⊥
 
 -- what holds of a run at each status, by the form of its words: the work is done, or a write failed within it; or it
@@ -251,7 +253,8 @@ OutcomeOf Check call statuses.WriteFault =
 OutcomeOf Audit call statuses.Done = SaysVerdict call call.after.report Holds
 OutcomeOf Audit call statuses.Violated =
     (rule : ℕ) × (position : ℕ) × SaysVerdict call call.after.report (Fails rule position)
-OutcomeOf Audit call statuses.WriteFault = SaysVerdictInPart one_more call call.after.report
+OutcomeOf Audit call statuses.WriteFault =
+    SaysVerdictInPart (IsPartOrHeld call.after.gate.held) one_more call call.after.report
 OutcomeOf Generate call statuses.Done = GivesFor IsGenerateForm (GivesLog Gave) none_more call call.after.report
 OutcomeOf Generate call statuses.WriteFault =
     GivesFor IsGenerateForm (GivesLog (AddsOrHolds call.after.gate.held)) one_more call call.after.report

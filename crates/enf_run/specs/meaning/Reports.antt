@@ -138,9 +138,9 @@ pub record AddsPart (text : List ℕ) (before after : Option Exchange) : Type 0 
 abbrev pub AddsOrHolds : (held : ℕ) → List ℕ → Option Exchange → Option Exchange → Type 0
 AddsOrHolds held text before after = AddsPart text before after ⊎ (Gave text before after × (0 < held))
 
--- so it is, or nothing was given
-abbrev pub AddsOrNothing : (held : ℕ) → List ℕ → Option Exchange → Option Exchange → Type 0
-AddsOrNothing held text before after = AddsOrHolds held text before after ⊎ (after ≡ before)
+-- a part of the text was given, or nothing was
+abbrev pub AddsOrNothing : List ℕ → Option Exchange → Option Exchange → Type 0
+AddsOrNothing text before after = AddsPart text before after ⊎ (after ≡ before)
 
 -- the line is whole at the end of the report, or the count of write faults is one more and a part of the line is there
 abbrev pub IsReported : List ℕ → Stream → Stream → Type 0
@@ -240,7 +240,6 @@ pub record SaysDrillLine (IsGiven : List ℕ → Option Exchange → Option Exch
   pub finds : DrillFinds sample_entries (all_formulas sample_rules) (generated_records start steps) found
   pub given : IsGiven (drill_line found) before after
 
--- the line was not given whole, or is held back in part; or nothing was given
-abbrev pub SaysDrillOrNothing : (held start steps : ℕ) → Option Exchange → Option Exchange → Type 0
-SaysDrillOrNothing held start steps before after =
-    SaysDrillLine (AddsOrHolds held) start steps before after ⊎ (after ≡ before)
+-- the line was not given whole, or nothing was given
+abbrev pub SaysDrillOrNothing : (start steps : ℕ) → Option Exchange → Option Exchange → Type 0
+SaysDrillOrNothing start steps before after = SaysDrillLine AddsPart start steps before after ⊎ (after ≡ before)

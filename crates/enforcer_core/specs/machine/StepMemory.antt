@@ -20,7 +20,11 @@ use Rattle.obligations.specs.machine.PlanClasses.{LooksAtNow, PlansStand}
 use Rattle.obligations.specs.machine.Progress.{AreServed}
 use Rattle.obligations.specs.machine.Successors.{LeadsAt}
 use Rattle.obligations.specs.meaning.Pending.{Pend, PendingAfter}
+use Rattle.past_state.specs.machine.UntouchedSteps.{AreUntouched}
+use Rattle.pending.specs.machine.Moments.{step_moment}
 use Rattle.pending.specs.machine.PendingLists.{IsPendingListOf}
+use Rattle.pending.specs.machine.Waits.{SleepsNow}
+use Rattle.sleepers.specs.machine.Entries.{AllButThose}
 use Rattle.choice_step.specs.machine.ActionChains.{ActsFrom}
 use Rattle.choice_step.specs.machine.Batches.{AreBatches}
 use Rattle.choice_step.specs.machine.AskedLeaves.{AreAskedActions}
@@ -94,9 +98,9 @@ pub record IsDecided (plans : List Plan) (before : Remembered) (kind : StepKind)
   pub remembers : (trace : List Step) → RemembersTrace plans before trace → last_time trace ≤ time
       → RemembersTrace plans after (trace ++ (acted_step o).step ∷ [])
 
--- nothing is pending, nothing is remembered of the past, and no rule is woken by these events
-pub record IsIdle (wakes : List (Option (List NameId))) (r : Remembered) (events : List Event) : Type 0 where
-  pub pending : r.pending.instances ≡ []
-  pub operators : r.past.operators ≡ []
-  pub stands : (trace : List Step) → PastStands trace r.past
+-- no rule is woken by these events, they touch nothing that is remembered of the past, and all that is pending sleeps
+pub record IsIdle (wakes : List (Option (List NameId))) (r : Remembered) (inserted : Bool) (time : ℕ)
+    (events : List Event) : Type 0 where
   pub asleep : AllSleep wakes events
+  pub untouched : AreUntouched events r.past.operators
+  pub sleep : AllButThose (SleepsNow events (step_moment inserted time)) r.pending.listed []

@@ -1,5 +1,6 @@
 -- Numbers of groups, noted under what wakes their entries.
 use Rattle.enf_data.specs.declared.events.Event.{Event}
+use Rattle.enf_data.specs.declared.seeds.Seed.{Seed}
 use Rattle.std.specs.List.{AllByRecursion}
 use Rattle.std.specs.Prelude.{List, Contains, ◌≡◌, ℕ, ◌⊎◌, Bool, Option, None, Some, [], true, ◌<◌}
 use Rattle.sleepers.specs.declared.keys.Shape.{Shape}
@@ -16,12 +17,14 @@ module _ {X : Type 0} where
 abbrev pub IsWithinBut : ℕ → List (ℕ × ℕ) → List (ℕ × ℕ) → Type 0
 IsWithinBut group old new = (pair : ℕ × ℕ) → Contains old pair → (group ≡ pair.1) ⊎ Contains new pair
 
--- groups by the keys of patterns and by times, the shapes of all patterns, and whether all groups are noted
+-- groups by the keys of patterns and by times, the shapes of all patterns, whether all groups are noted, and the seed
+-- of the keys
 pub record Noted : Type 0 where
   pub patterns : List (ℕ × ℕ)
   pub ends : List (ℕ × ℕ)
   pub shapes : List Shape
   pub is_begun : Bool
+  pub seed : Seed
 
 -- from which time on one with these patterns and this end is awake whatever happens
 abbrev pub awake_from : Option (List Pattern) → ℕ → ℕ
@@ -35,7 +38,7 @@ listed_patterns (Some patterns) = patterns
 -- the group is noted under the pattern
 pub record IsNoted (noted : Noted) (group : ℕ) (pattern : Pattern) : Type 0 where
   pub shape : Contains noted.shapes (shape_of pattern)
-  pub listed : Contains noted.patterns (pattern_key pattern.name pattern.args, group)
+  pub listed : Contains noted.patterns (pattern_key noted.seed pattern.name pattern.args, group)
 
 -- under each of the patterns, and under the end
 pub record IsGroupFound (noted : Noted) (group : ℕ) (patterns : Option (List Pattern)) (end : ℕ) : Type 0 where
@@ -60,6 +63,7 @@ pub record KeepsAll (old new : Noted) : Type 0 where
   pub ends : IsContainedIn old.ends new.ends
   pub shapes : IsContainedIn old.shapes new.shapes
   pub is_begun : new.is_begun ≡ old.is_begun
+  pub seed : new.seed ≡ old.seed
 
 -- nothing but of one group
 pub record KeepsOthers (group : ℕ) (old new : Noted) : Type 0 where
@@ -67,3 +71,4 @@ pub record KeepsOthers (group : ℕ) (old new : Noted) : Type 0 where
   pub ends : IsWithinBut group old.ends new.ends
   pub shapes : IsContainedIn old.shapes new.shapes
   pub is_begun : new.is_begun ≡ old.is_begun
+  pub seed : new.seed ≡ old.seed

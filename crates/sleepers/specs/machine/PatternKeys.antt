@@ -8,7 +8,8 @@ use Rattle.std.specs.Prelude.{Bool, List, Option, is_some, map, cond, [], ◌∷
 use Rattle.sleepers.specs.declared.keys.Shape.{Shape}
 use Rattle.sleepers.specs.declared.patterns.Pattern.{Pattern}
 use Rattle.std.specs.Hash as fed
-use Rattle.std.specs.Hash.FoldHasher as hasher
+use Rattle.enf_data.specs.declared.seeds.Seed.{Seed}
+use Rattle.enf_data.specs.machine.SeededHashes.{seeded_hasher, seeded_write}
 
 -- which of the arguments are fixed
 abbrev pub fixed_of : List (Option Value) → List Bool
@@ -32,6 +33,6 @@ arg_writes (Some (Text bytes)) = bytes ∷ []
 abbrev pub args_writes : List (Option Value) → HashWrites
 args_writes args = flat_map arg_writes args
 
-unfoldable pub pattern_key : NameId → List (Option Value) → ℕ
-pattern_key name args =
-    hasher.finish (fold hasher.write (fold hasher.write hasher.initial (fed.u32 name.0)) (args_writes args))
+unfoldable pub pattern_key : Seed → NameId → List (Option Value) → ℕ
+pattern_key seed name args =
+    (fold seeded_write (fold seeded_write (seeded_hasher seed) (fed.u32 name.0)) (args_writes args)).state

@@ -3,7 +3,7 @@ use Rattle.enf_data.specs.declared.intervals.Interval.{Interval}
 use Rattle.enf_data.specs.declared.terms.VarId.{VarId}
 use Rattle.enf_data.specs.meaning.Membership.{HasNoRepeats, IsIn}
 use Rattle.enf_data.specs.meaning.Valuations.{Valuation}
-use Rattle.std.specs.Prelude.{List, Option, ℕ, ◌≤◌, None, Some, ◌≡◌, ◌-◌}
+use Rattle.std.specs.Prelude.{List, Option, ℕ, ◌≤◌, None, Some, ◌≡◌, ◌-◌, []}
 use Rattle.valuations.specs.machine.Tables.{Relation, HasValuation}
 use Rattle.windows.specs.declared.steps.LastStep.{LastStep}
 
@@ -30,6 +30,10 @@ LastHasColumns columns (Some last) = last.rows.columns ≡ columns
 pub record IsSlot (slot : Slot) : Type 0 where
   pub distinct : HasNoRepeats slot.columns
   pub fits : LastHasColumns slot.columns slot.last
+
+-- a step is committed, and the last one has no rows
+abbrev pub IsBareSlot : Slot → Type 0
+IsBareSlot slot = (last : LastStep) × (slot.last ≡ Some last) × (last.rows.rows ≡ [])
 
 -- the valuation is among the rows of the last step, whose distance from the time is in the interval
 abbrev pub GivesLast : Interval → ℕ → Option LastStep → Valuation → Type 0

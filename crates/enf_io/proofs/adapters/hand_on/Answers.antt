@@ -2,7 +2,7 @@
 use Rattle.std.proofs.Common.{◌≡◌, ◌-◌, ◌<◌, List, ℕ, [], ◌∷◌, ◌++◌, length, take, drop, arith, ap, sym, subst, ◌∙◌, refl, length-take, length-drop, Vec, Global}
 use Rattle.std.proofs.lemmas.List.{drop-drop, take_rest}
 use Rattle.std.specs.Io.KnownBytes.{Appends}
-use Rattle.enf_io.specs.machine.Adapters.{TakesInTurns}
+use Rattle.enf_io.specs.machine.Adapters.{TakesInTurns, WritesAgain}
 use Rattle.enf_io.proofs.HeldBytes.{appends-more, keeps-split, keeps-same, last_call, one_call, turns-more}
 use Rattle.enf_io.proofs.adapters.hand_on.Goals as goal
 
@@ -13,7 +13,7 @@ loop-written-preserved g c =
     let n = c.loop-written.written in
     let count = c.in-Ok.count in
     let w = c.in-Ok.ensures in
-    let gives = g.O.WriteOnce.write_gives in
+    let gives = WritesAgain g.O.WriteOnce.write_gives in
     let bytes = c.deref.result.now in
     let all : bytes ≡ xs = c.deref.ensures.value ∙ ap (λ (v : Vec ℕ Global). v.items) h.same in
     let rest : take (length bytes - n) (drop n bytes) ≡ drop n xs = take_rest bytes n ∙ ap (drop n) all in

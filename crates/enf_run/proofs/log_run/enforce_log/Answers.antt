@@ -1,6 +1,7 @@
 -- What the gate held back is handed on at the end: what the run of the log has come to is the same after it, or is cut.
 use Rattle.enf_run.proofs.Vocabulary.{err_from_is_err_and, policy_rules_of, seen_of, enforcer_setting, input_log, rest_left}
 use Rattle.enf_run.proofs.HandingLemmas.{lost_handed, lost_held, ran_handed, stops_handed, stops_held, took_handed, took_held}
+use Rattle.enf_run.proofs.HandedOnLemmas.{one_cause}
 use Rattle.enf_run.proofs.LogProgressLemmas.{ran_cut}
 use Rattle.enf_run.proofs.log_run.enforce_log.Goals as goal
 
@@ -75,3 +76,14 @@ returns-in_ok-hand_on-in-Err-NoMemory-clause-lost g c =
     let lost = rw c.in-Err-NoMemory.field-0-is at c.in-Err-NoMemory.ensures.lost in
     lost_handed before between (g.G.Sink.seen c.hand_on-in-Err-NoMemory.new.gate)
     (input_log c.args.names.now.signature.now c.args.log.now.enforcer.clock) lost c.in_ok-hand_on-in-Err-NoMemory.ensures
+
+pub returns-in_err-hand_on-in-Ok-clause-lacks : goal.returns-in_err-hand_on-in-Ok-clause-lacks
+returns-in_err-hand_on-in-Ok-clause-lacks g c =
+    let p = err_from_is_err_and c.from_residual.result c.from_residual.ensures.1 in
+    rw (p.1, p.2) (λ lack. absurd (one_cause c.in_err-hand_on-in-Ok.field-0.0 c.in_err-hand_on-in-Ok.ensures.failed lack))
+
+pub returns-in_err-hand_on-in-Err-NoMemory-clause-lacks : goal.returns-in_err-hand_on-in-Err-NoMemory-clause-lacks
+returns-in_err-hand_on-in-Err-NoMemory-clause-lacks g c =
+    let r = c.from_residual-in_err-hand_on-in-Err-NoMemory in
+    let p = err_from_is_err_and r.result r.ensures.1 in
+    rw (p.1, p.2) (λ lack. absurd (one_cause c.in_err-hand_on-in-Err-NoMemory.field-0.0 c.in_err-hand_on-in-Err-NoMemory.ensures.failed lack))

@@ -23,7 +23,7 @@ returns-in_err-accepted-clause-outcome g c words after status form =
     let entries = c.in_ok-read.read.signature in
     let name = c.args.policy_file.now in
     let ends = subst (λ (v : FileView). EndsFile MOST_FILE_BYTES (HoldsRefusedPolicy v.contents name entries) name v
-    (g.F.Files.seen c.read_policy.new.files) c.in_err-accepted.field-0.0) c.in_ok-read.ensures.same
+    (g.F.Files.seen c.read_policy_with_seed.new.files) c.in_err-accepted.field-0.0) c.in_ok-read.ensures.same
     c.in_err-accepted.ensures.ends in
     rw (p.1, p.2) (policy_ends _ (g.R.Sink.seen c.args.report.now) (EnforceOutcome _) NamesEnforce
     (enforce_sources _ (g.R.Sink.seen c.args.report.now)) c.args.signature_file.now name (states, form) refl
@@ -38,7 +38,7 @@ returns-clause-outcome g c words after status form =
     let policy_file = c.args.policy_file.now in
     let first = c.in_ok-read.ensures.same in
     let same = c.in_ok-accepted.ensures.same in
-    let now = g.F.Files.seen c.read_policy.new.files in
+    let now = g.F.Files.seen c.read_policy_with_seed.new.files in
     let held = subst (λ (v : FileView). HoldsSignature v.contents signature_file c.in_ok-read.read.bytes.items entries) (sym (same ∙ first)) c.in_ok-read.ensures.held in
     let holds_signature = subst (λ (bytes : List ℕ). HoldsSignature now.contents signature_file bytes entries) (sym c.as_slice-signature.ensures.value) held in
     let accepted = subst (λ (v : FileView). HoldsPolicy v.contents policy_file c.in_ok-accepted.accepted.bytes.items entries rules) (sym same) c.in_ok-accepted.ensures.held in

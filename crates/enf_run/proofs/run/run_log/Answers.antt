@@ -79,7 +79,7 @@ pub returns-in_err-judged-clause-handed : goal.returns-in_err-judged-clause-hand
 returns-in_err-judged-clause-handed g c =
     let p = err_from_is_err_and c.from_residual.result c.from_residual.ensures.1 in
     rw (p.1, p.2) (handed_cut (g.G.Sink.seen c.args.gate.now) (g.G.Sink.seen c.enforce_log.new.gate) c.in_err-judged.field-0.0
-    (c.in_err-judged.ensures.late))
+    (c.in_err-judged.ensures.late) c.in_err-judged.ensures.lacks)
 
 pub returns-in_err-conclude-clause-handed : goal.returns-in_err-conclude-clause-handed
 returns-in_err-conclude-clause-handed g c =

@@ -3,4 +3,4 @@ use Rattle.sleepers.proofs.keys.key_of.Goals as goal
 
 pub returns : goal.returns
 unfolding pattern_key
-returns c = cc (c.default-state.ensures, c.write_u32.ensures, c.feed_all.ensures, c.finish.ensures)
+returns c = cc (c.build_hasher-state.ensures, c.write_u32.ensures, c.feed_all.ensures, c.finish.ensures)

@@ -11,9 +11,9 @@ loop-event-preserved c =
     let yielded = c.loop-event.yielded in
     let event = c.in-Some.event in
     let rest = c.next.new.self.rest.items in
-    let inserted = IfOk-at_ok _ c.in_ok-map_err.was (ok_through _ _ c.insert.result c.map_err.result c.map_err.ensures.cases c.insert.ensures.inserted) in (
+    let inserted = IfOk-at_ok _ c.in_ok-map_err.was (ok_through _ _ c.insert_by.result c.map_err.result c.map_err.ensures.cases c.insert_by.ensures.inserted) in (
       tt,
       tt,
       c.loop-event.invariant.2 ∙ ap (λ l. yielded ++ l) c.in-Some.ensures.steps.0 ∙ sym (append_assoc yielded (event ∷ []) rest),
-      firsts_more [] yielded c.loop-event.set c.insert.new.self event c.in_ok-map_err.field-0 c.loop-event.invariant.3 inserted,
+      firsts_more [] yielded c.loop-event.set c.insert_by.new.self event c.in_ok-map_err.field-0 c.loop-event.invariant.3 inserted,
     )

@@ -21,6 +21,14 @@ returns-in_err-steps-clause-no_memory c later same =
     let less : deadline < c.args.time = passed in
     omega (arith, le, less))
 
+pub returns-clause-nothing : goal.returns-clause-nothing
+returns-clause-nothing c later =
+    c.in_ok-steps.ensures.nothing
+    (λ deadline there passed.
+    let le : c.args.time ≤ deadline = later deadline (subst (λ (e : Enforcing). Contains e.pending.deadlines deadline) c.self.view_is there) in
+    let less : deadline < c.args.time = passed in
+    omega (arith, le, less))
+
 pub returns-clause-takes : goal.returns-clause-takes
 returns-clause-takes c =
     let on : c.self.inside.stopped ≡ false = subst (λ (e : Enforcing). e.stopped ≡ false) (sym c.self.view_is) c.in_ok-admit.ensures.goes_on in

@@ -16,8 +16,8 @@ invariant_of-past g c =
     (subst (IsReordered (only_formula 0 (tree_of c.self.inside.formula)) asked) (sym c.as_slice-2.ensures.value) c.self.invariant.2) in
     record { within = numbers_within f asked numbers same tables c.requires.tabled }
 
-pub rows_over-requires-clause-ask : goal.rows_over-requires-clause-ask
-rows_over-requires-clause-ask g c =
+pub rows_told-requires-clause-ask : goal.rows_told-requires-clause-ask
+rows_told-requires-clause-ask g c =
     let f = tree_of c.args.self.now.formula in
     let bound = c.args.self.now.bound in
     let asked = tree_of c.self.inside.asked.formula in
@@ -30,8 +30,8 @@ rows_over-requires-clause-ask g c =
     let safe : Safe asked (Contains bound) = subst (λ (b : BoundFormula). Safe asked (Contains b.bound)) c.self.view_is c.self.invariant.3 in
     asked_can f asked numbers same bound c.columns.result.now c.columns.ensures (bound_in c.args.v.now) scope part tables safe c.requires
 
-pub rows_over-requires-clause-open : goal.rows_over-requires-clause-open
-rows_over-requires-clause-open g c =
+pub rows_told-requires-clause-open : goal.rows_told-requires-clause-open
+rows_told-requires-clause-open g c =
     let f = tree_of c.args.self.now.formula in
     let bound = c.args.self.now.bound in
     let asked = tree_of c.self.inside.asked.formula in
@@ -55,8 +55,8 @@ returns-clause-columns g c =
     let same : IsReordered (only_formula 0 f) asked numbers = subst (λ (b : BoundFormula). IsReordered (only_formula 0 (tree_of b.formula)) asked numbers) c.self.view_is
     (subst (IsReordered (only_formula 0 (tree_of c.self.inside.formula)) asked) (sym c.as_slice-2.ensures.value) c.self.invariant.2) in
     let part = subst (λ l. IsPartOfValuation (bound_in c.args.v.now) l scope) (c.as_slice.ensures ∙ c.bound.ensures.bound) (part_is (bound_in c.args.v.now) c.as_slice.result.now) in
-    ok_columns f bound (bound_in c.args.v.now) scope part c.requires.binds c.rows_over.result
-    (ok_given_columns f asked numbers same scope c.rows_over.result c.rows_over.ensures.columns)
+    ok_columns f bound (bound_in c.args.v.now) scope part c.requires.binds c.rows_told.result
+    (ok_given_columns f asked numbers same scope c.rows_told.result c.rows_told.ensures.columns)
 
 pub returns-clause-rows : goal.returns-clause-rows
 returns-clause-rows g c =
@@ -69,9 +69,9 @@ returns-clause-rows g c =
     let same : IsReordered (only_formula 0 f) asked numbers = subst (λ (b : BoundFormula). IsReordered (only_formula 0 (tree_of b.formula)) asked numbers) c.self.view_is
     (subst (IsReordered (only_formula 0 (tree_of c.self.inside.formula)) asked) (sym c.as_slice-2.ensures.value) c.self.invariant.2) in
     let part = subst (λ l. IsPartOfValuation (bound_in c.args.v.now) l scope) (c.as_slice.ensures ∙ c.bound.ensures.bound) (part_is (bound_in c.args.v.now) c.as_slice.result.now) in
-    ok_rows f bound (bound_in c.args.v.now) scope part c.requires.binds c.args.events.now tables c.requires.tabled c.rows_over.result
-    (ok_given_columns f asked numbers same scope c.rows_over.result c.rows_over.ensures.columns)
-    (ok_given_rows f asked numbers same scope c.args.events.now tables c.rows_over.result c.rows_over.ensures.rows)
+    ok_rows f bound (bound_in c.args.v.now) scope part c.requires.binds c.args.events.now tables c.requires.tabled c.rows_told.result
+    (ok_given_columns f asked numbers same scope c.rows_told.result c.rows_told.ensures.columns)
+    (ok_given_rows f asked numbers same scope c.args.events.now tables c.rows_told.result c.rows_told.ensures.rows)
 
 pub returns-clause-known : goal.returns-clause-known
 returns-clause-known g c =
@@ -84,7 +84,7 @@ returns-clause-known g c =
     let same : IsReordered (only_formula 0 f) asked numbers = subst (λ (b : BoundFormula). IsReordered (only_formula 0 (tree_of b.formula)) asked numbers) c.self.view_is
     (subst (IsReordered (only_formula 0 (tree_of c.self.inside.formula)) asked) (sym c.as_slice-2.ensures.value) c.self.invariant.2) in
     let part = subst (λ l. IsPartOfValuation (bound_in c.args.v.now) l scope) (c.as_slice.ensures ∙ c.bound.ensures.bound) (part_is (bound_in c.args.v.now) c.as_slice.result.now) in
-    ok_known c.args.events.now tables f bound (bound_in c.args.v.now) scope part c.requires.binds c.bound.ensures.safe c.requires.fresh c.requires.tabled c.rows_over.result
-    c.rows_over.ensures.table
-    (ok_given_columns f asked numbers same scope c.rows_over.result c.rows_over.ensures.columns)
-    (ok_given_rows f asked numbers same scope c.args.events.now tables c.rows_over.result c.rows_over.ensures.rows)
+    ok_known c.args.events.now tables f bound (bound_in c.args.v.now) scope part c.requires.binds c.bound.ensures.safe c.requires.fresh c.requires.tabled c.rows_told.result
+    c.rows_told.ensures.table
+    (ok_given_columns f asked numbers same scope c.rows_told.result c.rows_told.ensures.columns)
+    (ok_given_rows f asked numbers same scope c.args.events.now tables c.rows_told.result c.rows_told.ensures.rows)

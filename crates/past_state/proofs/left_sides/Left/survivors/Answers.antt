@@ -1,7 +1,13 @@
-use Rattle.past_state.proofs.Vocabulary.{sym, subst, tree_of, Contains, AreSurvivors, CanAskLeft}
+use Rattle.past_state.proofs.Vocabulary.{sym, subst, ◌∙◌, tree_of, Contains, AreSurvivors, CanAskLeft}
 use Rattle.past_state.proofs.ColumnLemmas.{denied_within, failing_in, surviving_in}
+use Rattle.past_state.proofs.UntouchedLemmas.{all_survive}
 use Rattle.past_state.specs.declared.survivors.Survivors.TheVariants as told
+use Rattle.past_state.specs.machine.UntouchedSteps.{KeepsAllRows}
 use Rattle.past_state.proofs.left_sides.Left.survivors.Goals as goal
+
+pub returns-then-keeps_all : goal.returns-then-keeps_all
+returns-then-keeps_all g c = all_survive c.args.events.now (g.P.Past.tables c.args.past.now) c.args.self.now c.args.window.now
+    (subst (λ l. KeepsAllRows l c.args.self.now) (c.as_slice.ensures.events ∙ c.set.ensures) (c.keeps_all.ensures c.if-keeps_all.true))
 
 pub surviving_rows-requires-clause-free : goal.surviving_rows-requires-clause-free
 surviving_rows-requires-clause-free g c = λ x free. subst (λ l. Contains l x) (sym c.in_ok-kept-in-ByRow.ensures.columns)

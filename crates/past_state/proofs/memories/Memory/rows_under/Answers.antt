@@ -1,4 +1,4 @@
-use Rattle.past_state.proofs.Vocabulary.{◌↔◌, sym, subst, IfOk-weaker, AgreesWhereBound, HasValuation, given_last_answers, LastFits, FitMemory, memory_given}
+use Rattle.past_state.proofs.Vocabulary.{◌↔◌, sym, subst, IfOk-weaker, AgreesWhereBound, HasValuation, given_last_answers, LastFits, FitMemory, memory_given, AnswersBy, SurvivesFor}
 use Rattle.past_state.proofs.LazyTableLemmas.{window_rows}
 use Rattle.past_state.proofs.memories.Memory.rows_under.Goals as goal
 
@@ -15,7 +15,9 @@ returns-in-Once-clause-rows g c = IfOk-weaker c.rows_under-in-Once.result _ _ (�
     subst (λ m. HasValuation t w ↔ (HasValuation (memory_given m c.args.time c.args.tables.now) w
     × AgreesWhereBound (memory_given m c.args.time c.args.tables.now).columns (g.V.Lookup.valuation c.args.v.now) w)) (sym c.in-Once.is)
     (window_rows c.in-Once.window c.args.time c.args.tables.now c.as_surviving-surviving.result w (HasValuation t w)
-    (AgreesWhereBound c.in-Once.window.columns (g.V.Lookup.valuation c.args.v.now) w) fits.0 fits.1 c.as_surviving-surviving.ensures (rows w))) c.rows_under-in-Once.ensures.rows
+    (AgreesWhereBound c.in-Once.window.columns (g.V.Lookup.valuation c.args.v.now) w) fits.0 fits.1 c.as_surviving-surviving.ensures
+    (subst (λ r. HasValuation t w ↔ (AnswersBy c.in-Once.window c.args.time (SurvivesFor c.as_surviving-surviving.result) r w × AgreesWhereBound c.in-Once.window.columns (g.V.Lookup.valuation c.args.v.now) w))
+    c.table.ensures (rows w)))) c.rows_under-in-Once.ensures.rows
 
 pub returns-in-Since-clause-rows : goal.returns-in-Since-clause-rows
 returns-in-Since-clause-rows g c = IfOk-weaker c.rows_under-in-Since.result _ _ (λ t rows w.
@@ -23,4 +25,6 @@ returns-in-Since-clause-rows g c = IfOk-weaker c.rows_under-in-Since.result _ _ 
     subst (λ m. HasValuation t w ↔ (HasValuation (memory_given m c.args.time c.args.tables.now) w
     × AgreesWhereBound (memory_given m c.args.time c.args.tables.now).columns (g.V.Lookup.valuation c.args.v.now) w)) (sym c.in-Since.is)
     (window_rows c.in-Since.window c.args.time c.args.tables.now c.as_surviving-surviving.result w (HasValuation t w)
-    (AgreesWhereBound c.in-Since.window.columns (g.V.Lookup.valuation c.args.v.now) w) fits.0 fits.1 c.as_surviving-surviving.ensures (rows w))) c.rows_under-in-Since.ensures.rows
+    (AgreesWhereBound c.in-Since.window.columns (g.V.Lookup.valuation c.args.v.now) w) fits.0 fits.1 c.as_surviving-surviving.ensures
+    (subst (λ r. HasValuation t w ↔ (AnswersBy c.in-Since.window c.args.time (SurvivesFor c.as_surviving-surviving.result) r w × AgreesWhereBound c.in-Since.window.columns (g.V.Lookup.valuation c.args.v.now) w))
+    c.table-in-Since.ensures (rows w)))) c.rows_under-in-Since.ensures.rows

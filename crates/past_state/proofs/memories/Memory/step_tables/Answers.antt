@@ -3,17 +3,17 @@ use Rattle.past_state.proofs.ColumnLemmas.{answers_all}
 use Rattle.past_state.specs.declared.survivors.Survivors.TheVariants as told
 use Rattle.past_state.proofs.memories.Memory.step_tables.Goals as goal
 
-pub all_rows-requires-clause-fresh : goal.all_rows-requires-clause-fresh
-all_rows-requires-clause-fresh c = (subst (CanStep c.args.past.now) c.in-Prev.is c.requires).fresh
+pub right_rows-requires-clause-fresh : goal.right_rows-requires-clause-fresh
+right_rows-requires-clause-fresh c = (subst (CanStep c.args.past.now) c.in-Prev.is c.requires).fresh
 
-pub all_rows-requires-in-Once-clause-fresh : goal.all_rows-requires-in-Once-clause-fresh
-all_rows-requires-in-Once-clause-fresh c = (subst (CanStep c.args.past.now) c.in-Once.is c.requires).fresh
+pub right_rows-requires-in-Once-clause-fresh : goal.right_rows-requires-in-Once-clause-fresh
+right_rows-requires-in-Once-clause-fresh c = (subst (CanStep c.args.past.now) c.in-Once.is c.requires).fresh
 
-pub all_rows-requires-in-Since-clause-fresh : goal.all_rows-requires-in-Since-clause-fresh
-all_rows-requires-in-Since-clause-fresh c = (subst (CanStep c.args.past.now) c.in-Since.is c.requires).0.fresh
+pub right_rows-requires-in-Since-clause-fresh : goal.right_rows-requires-in-Since-clause-fresh
+right_rows-requires-in-Since-clause-fresh c = (subst (CanStep c.args.past.now) c.in-Since.is c.requires).0.fresh
 
-pub all_rows-requires-in-Since-clause-tabled : goal.all_rows-requires-in-Since-clause-tabled
-all_rows-requires-in-Since-clause-tabled c =
+pub right_rows-requires-in-Since-clause-tabled : goal.right_rows-requires-in-Since-clause-tabled
+right_rows-requires-in-Since-clause-tabled c =
     let can = subst (CanStep c.args.past.now) c.in-Since.is c.requires in
     subst (FitOperators (outermost (tree_of c.in-Since.right.formula))) (sym c.behind-behind.ensures) can.0.tabled
 

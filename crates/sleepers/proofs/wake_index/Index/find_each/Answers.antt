@@ -9,9 +9,8 @@ loop-event-preserved c = record {
       (λ on. c.in_ok-find_event.ensures.kept group (c.loop-event.invariant.has group pattern is event on matches))
       (λ same.
       let shapes : c.args.self.now.shapes ≡ c.as_slice.result.now = sym (ap (λ (n : Noted). n.shapes) c.self.view_is) ∙ sym c.as_slice.ensures.value in
-      let pairs = sym (ap (λ (n : Noted). n.patterns) c.self.view_is) in
-      c.in_ok-find_event.ensures.ok group pattern (subst (λ (l : List Shape). Contains l (shape_of pattern)) shapes is.shape)
-      (subst (λ l. Contains l (pattern_key pattern.name pattern.args, group)) pairs is.listed) (subst (λ (e : Event). MatchesPattern pattern e) (sym same) matches))
+      let listed = subst (λ (n : Noted). Contains n.patterns (pattern_key n.seed pattern.name pattern.args, group)) (sym c.self.view_is) is.listed in
+      c.in_ok-find_event.ensures.ok group pattern (subst (λ (l : List Shape). Contains l (shape_of pattern)) shapes is.shape) listed (subst (λ (e : Event). MatchesPattern pattern e) (sym same) matches))
       (in_next c.args.events.now c.loop-event.event-index c.event-item.result event c.loop-event-test.true c.event-item.is there);
   kept = λ x there. c.in_ok-find_event.ensures.kept x (c.loop-event.invariant.kept x there);
 }

@@ -7,6 +7,7 @@ returns-in-Some c = record {
   ends = λ pair there. c.remove.ensures pair (subst (λ (n : Noted). Contains n.ends pair) (sym c.self.view_is) there);
   shapes = λ shape there. subst (λ (n : Noted). Contains n.shapes shape) (sym c.self.view_is) there;
   is_begun = ap (λ (n : Noted). n.is_begun) c.self.view_is;
+  seed = ap (λ (n : Noted). n.seed) c.self.view_is;
 }
 
 pub returns-in_default : goal.returns-in_default
@@ -15,4 +16,5 @@ returns-in_default c = record {
   ends = λ pair there. c.remove.ensures pair (subst (λ (n : Noted). Contains n.ends pair) (sym c.self.view_is) there);
   shapes = λ shape there. subst (λ (n : Noted). Contains n.shapes shape) (sym c.self.view_is) there;
   is_begun = ap (λ (n : Noted). n.is_begun) c.self.view_is;
+  seed = ap (λ (n : Noted). n.seed) c.self.view_is;
 }
