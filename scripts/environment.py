@@ -110,10 +110,10 @@ def an_output_that_would_block(program):
     return ended
 
 
-def failing(call, stream, times, how):
+def failing(call, stream, times, how, more=()):
     """The first calls of that stream fail so."""
     through = [sys.executable, INJECTED, call, str(stream), str(times), how]
-    return lambda program: program.run(through=through)
+    return lambda program: program.run(more, through=through)
 
 
 def interrupted(call, stream, times):
@@ -262,6 +262,9 @@ CASES = [
     Case('the policy never ends', 2, 'policy: too long', a_policy_that_is('/dev/zero')),
     Case('the state goes to a full disk', 5, OWED, a_state_saved_as('/dev/full')),
     Case('the state is to be saved as a folder', 5, OWED, a_state_saved_as('.')),
+    Case('the state cannot be synced to its device', 5, OWED, failing('fsync', 0, 1, 'EIO', SAVE)),
+    Case('three syncs of the state are interrupted', 0, OWED, failing('fsync', 0, 3, 'EINTR', SAVE)),
+    Case('the state goes to what has no device to sync', 0, OWED, a_state_saved_as('/dev/null')),
     Case('the state is longer than a file may be', 5, '', a_state_above_its_limit),
     Case('the same, where the signal is not ignored', -signal.SIGXFSZ, '', a_state_above_its_limit_by_a_signal),
     Case('the state was cut at its end, and is resumed', 2, 'state: syntax at line 5', a_state_that_was_cut),

@@ -1,8 +1,8 @@
 #!/usr/bin/env python3
 """injected.py CALL STREAM TIMES ERRNO CMD..: runs a program of x86-64 whose first calls of one kind fail.
 
-The first TIMES calls of CALL (read or write, and getrandom, of which STREAM says nothing) on the stream with that number
-answer ERRNO in place of being done. It ends with the status of the program, or with 99 where the system does not let one
+The first TIMES calls of CALL (read or write, and getrandom and fsync, of which STREAM says nothing) on the stream with that
+number answer ERRNO in place of being done. It ends with the status of the program, or with 99 where the system does not let one
 process trace another.
 """
 import ctypes
@@ -11,7 +11,9 @@ import os
 import signal
 import sys
 
-CALLS = {'read': 0, 'write': 1, 'getrandom': 318}
+CALLS = {'read': 0, 'write': 1, 'fsync': 74, 'getrandom': 318}
+# Calls that are counted on each stream.
+ON_EACH = {CALLS['fsync'], CALLS['getrandom']}
 TRACE_ME, SYSCALL, GET_REGISTERS, SET_REGISTERS, SET_OPTIONS = 0, 24, 12, 13, 0x4200
 # A stop at a call of the system is told from one by a signal.
 TELL_CALLS = 1
@@ -67,7 +69,7 @@ def main():
         registers = Registers()
         trace(GET_REGISTERS, child, ctypes.addressof(registers))
         if begins:
-            of_stream = call == CALLS['getrandom'] or registers.rdi == stream
+            of_stream = call in ON_EACH or registers.rdi == stream
             fails = times > 0 and registers.orig_rax == call and of_stream
             if fails:
                 times -= 1

@@ -4,11 +4,10 @@ use Rattle.choice_step.proofs.Vocabulary.{take_more, All-contains, AllByRecursio
 use Rattle.choice_step.proofs.Vocabulary.{CanAskRoots, UnwokenBeginsNothing, UnwokenMissesNothing, MissesNothing, roots_from, trace_with_step, AllSleep, HasNoneOf, IsAway}
 use Rattle.choice_step.proofs.Vocabulary.{AllButThose, CanAskOf, Contains, Decides, EarlyMissNothing, HasNone, Instance, IsWaitOf, Listed, MissingOfExists, PendingList, SleepersMissNothing}
 use Rattle.choice_step.proofs.Vocabulary.{SleepsNow, Wait, Waiting, append-nil, arith, false, true, first_or_later, inl, listed_instances, nil_not_cons, node_of, none_in_nil, step_moment, time_now, ⊎_elim, ◌⊎◌}
-use Rattle.choice_step.proofs.Vocabulary.{AtNode, Gathers}
+use Rattle.choice_step.proofs.Vocabulary.{AtNode, Gathers, is_forced}
 use Rattle.choice_step.specs.machine.Laws.{AllAreAsleep}
 use Rattle.obligations.specs.machine.ExistenceLaws.{AfterExists}
 use Rattle.obligations.specs.machine.Parts.{HasPart}
-use Rattle.obligations.specs.machine.Progress.{is_forced_at}
 use Rattle.obligations.specs.machine.Successors.{ComesAt, LeadsAt}
 use Rattle.obligations.specs.machine.TriggeredNodes.{IsBegunUnder}
 use Rattle.obligations.specs.meaning.Pending.{After, PendingAfter}
@@ -102,7 +101,7 @@ module _ (guards : List (Formula × List VarId)) (plans : List Plan) (inserted :
       → ComesAt events time position plans inserted x.instance x.instance
   comes_on position x can is asleep =
       let before = before_last plans x.wait x.instance (step_moment inserted time) is asleep.in_time in
-      subst (λ (o : Option Plan). AtNode o (λ node. ((x.instance ≡ x.instance) × (has_deadline node ≡ true → is_forced_at inserted time x.instance ≡ false))
+      subst (λ (o : Option Plan). AtNode o (λ node. ((x.instance ≡ x.instance) × (has_deadline node ≡ true → is_forced inserted time x.instance ≡ false))
       ⊎ ((part : Plan) × HasPart node part × IsBegunUnder events time position x.instance.rule part x.instance))) (sym can.found)
       (inl (refl, λ due. not_forced inserted time x.instance.high before))
 

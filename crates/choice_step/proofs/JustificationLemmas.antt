@@ -142,14 +142,14 @@ module _ (lost : SomethingMissedIsLost) (lost_pending : SomethingMissedIsLostPen
           position = position_is;
           node = node;
           named = named;
-          begun = inr (ahead, earlier plans trace pending i node stand is_front clean pend there named);
+          begun = inr (ahead, earlier plans trace pending i node stand is_front pend there named);
           owed = owed_on plans trace (step ∷ []) 0 (floor kind time) i.rule node i.valuation i.origin
               (λ root at. (stand i.rule root at).back) given (omega arith)
               (owed plans trace 0 pending i node stand is_front clean pend there named);
           lost = lost_from node i (time_behind (is_forced (is_inserted kind) time i) time) (behind_floor kind time i)
-              (lost_pending plans trace step pending i node (is_forced (is_inserted kind) time i) literal rest stand is_trace clean pend there named due misses');
+              (lost_pending plans trace step pending i node (is_forced (is_inserted kind) time i) literal rest stand is_trace pend there named due misses');
           serves = served_pending plans trace step (floor kind time) pending i node (is_forced (is_inserted kind) time i) (literal ∷ rest) literal
-              stand is_trace clean pend in_time there named ends due misses' (here literal rest);
+              stand is_trace pend in_time there named ends due misses' (here literal rest);
         }
 
     back : (rule : ℕ) (plan : Plan) → slice_get plans rule ≡ Some plan → node_number plan ≡ 0 → (literal : Literal) (rest : List Literal)

@@ -42,7 +42,7 @@ pub use Rattle.choice_step.specs.machine.RuleTriggers.{AllSleep, AreAllIn, Gains
 pub use Rattle.choice_step.specs.machine.Situations.{CanDecideSituation, IsFoundInSituation, IsMetBefore, NoneIsWoken, SituationFinds, SituationLeads, situation_plans}
 pub use Rattle.choice_step.specs.machine.WantedActions.{AreLiteralsBehind, IsKnownBehind, IsKnownFor, IsLiteralAt, IsLiteralBehind, IsWantedAt, IsWantedFrom}
 pub use Rattle.choice_step.specs.meaning.ActedSteps.{ActedStep, AllAreJustified, Applies, AreJustified, StepIsJustified, change_by, change_of}
-pub use Rattle.choice_step.specs.meaning.Choice.{Candidate, CandidateMisses, Decides, IsFirstMissing, MissesNothing, Root, Waiting, action_at, action_at_root, action_for, all_asked, is_forced}
+pub use Rattle.choice_step.specs.meaning.Choice.{Candidate, CandidateMisses, Decides, IsFirstMissing, MissesNothing, Root, Waiting, action_at, action_at_root, action_for, all_asked}
 pub use Rattle.choice_step.specs.meaning.Choice.{roots_from, trace_with_step}
 pub use Rattle.choice_step.specs.meaning.Follows.{Follows, GoesOut, InsertsSteps, IsLeastDeadline, IsPassed, NoneIsPassed, StepGoesOut, is_inserted, steps_of}
 pub use Rattle.enf_data.proofs.ListFacts.{Contains-flat_map, Contains-insert, drop_at_item, from_flat_map, nil_not_cons, not_both, slice_get_at}
@@ -107,6 +107,7 @@ pub use Rattle.obligations.specs.machine.WantedLiterals.{IsKnownAt, IsWanted, Is
 pub use Rattle.obligations.specs.meaning.Obligations.{AreGuardRows, Begun, Gathers, IfElse, IsAbsent, IsJustified, IsPresent, LiteralUnless, MissesAlways, MissesEither, MissesUntil, Missing, OfEvent}
 pub use Rattle.obligations.specs.meaning.Obligations.{cause_literal, floor, last_position, suppress_literal, time_now}
 pub use Rattle.obligations.specs.meaning.Pending.{AtNode, BegunByRoots, HasDeadline, IsClean, MissesAt, MissingOf, NoneIsOver, Pend, node_of}
+pub use Rattle.obligations.specs.meaning.PendingBounds.{is_forced}
 pub use Rattle.past_state.proofs.GuardLaws.{looks_at}
 pub use Rattle.past_state.specs.declared.guards.PlacedGuard.{PlacedGuard}
 pub use Rattle.past_state.specs.declared.kept_rows.KeptRow.{KeptRow}

@@ -3,7 +3,7 @@ ghost use Rattle.std.specs.Prelude.{◌≡◌, ◌↔◌, ◌<◌, List, [], IfO
 ghost use Rattle.std.specs.Prelude.{true, length, map, slice_get};
 ghost use Rattle.std.specs.Option.{option_map};
 ghost use Rattle.std.specs.List.{AllByRecursion};
-ghost use Rattle.choice_step.specs.meaning.Choice.{Waiting, action_at, action_at_root, all_asked, is_forced};
+ghost use Rattle.choice_step.specs.meaning.Choice.{Waiting, action_at, action_at_root, all_asked};
 ghost use Rattle.choice_step.specs.meaning.Choice.{MissesNothing, roots_from};
 ghost use Rattle.choice_step.specs.meaning.ActedSteps.{Applies};
 ghost use Rattle.choice_step.specs.machine.FirstActions.{IsActionFor, IsPlainFound, action_by, action_found};
@@ -37,6 +37,7 @@ use enf_data::memory::NoMemory;
 use enf_data::seeds::Seed;
 use obligations::laws::unwoken_is_idle;
 use obligations::missing_literals::{first_missing, first_missing_of, lack};
+use obligations::pending_parts::is_forced;
 use obligations::plain_plans::is_plain;
 use obligations::{Action, Instance, Literal, LiteralKind, Now};
 use plan_terms::Plan;
@@ -237,13 +238,6 @@ fn missing_of_root(
         literals.push(literal)?;
     }
     Ok(literals)
-}
-
-// Whether an instance cannot wait any longer: at an inserted step at the end of its window.
-fn is_forced(instance: &Instance, time: u64, inserted: bool) -> bool
-    ensures { result ≡ is_forced inserted time instance.now }
-{
-    inserted && time == instance.high
 }
 
 // The action of who was asked for a literal that is missed.

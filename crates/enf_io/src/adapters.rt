@@ -306,7 +306,7 @@ impl<F: FilesOnce> Files for AdaptedFiles<F> {
     fn read(&mut self, name: &str, most: usize) -> Result<Vec<u8>, IoRefusal>
         ensures once { IsOneCall (λ answer. AsksOpened
             (λ opened. F.open_gives self.old.files name.now opened self.new.files)
-            (λ file answer after. F.File.read_gives file most answer after) answer) adapted result }
+            (λ file answer. F.File.read_gives file most answer) answer) adapted result }
         ensures reads { self.new.read_faults ≡ faults_after result self.old.read_faults }
         ensures writes { self.new.write_faults ≡ self.old.write_faults }
         ensures seen { ReadsFile name.now most result (untold_files self.old) (untold_files self.new) }
@@ -328,7 +328,7 @@ impl<F: FilesOnce> Files for AdaptedFiles<F> {
     fn write(&mut self, name: &str, bytes: &[u8]) -> Result<(), IoRefusal>
         ensures once { IsOneCall (λ answer. AsksOpened
             (λ opened. F.create_gives self.old.files name.now opened self.new.files)
-            (λ file answer after. F.File.write_gives file bytes.now answer after) answer) adapted result }
+            (λ file answer. F.File.write_gives file bytes.now answer) answer) adapted result }
         ensures reads { self.new.read_faults ≡ self.old.read_faults }
         ensures writes { self.new.write_faults ≡ faults_after result self.old.write_faults }
         ensures seen { WritesFile name.now bytes.now result (untold_files self.old) (untold_files self.new) }
@@ -346,20 +346,20 @@ fn read_front<F: FilesOnce>(
 ) -> io::Result<Vec<u8>>
     ensures within { IfOk result (λ bytes. length bytes.items ≤ most) }
     ensures once { AsksOpened (λ opened. F.open_gives files.old name.now opened files.new)
-        (λ file answer after. F.File.read_gives file most answer after) result }
+        (λ file answer. F.File.read_gives file most answer) result }
 {
     match files.open_once(name) {
-        Ok(mut file) => file.read_front_once(alloc, most),
+        Ok(file) => file.read_front_once(alloc, most),
         Err(error) => Err(error),
     }
 }
 
 fn write_whole<F: FilesOnce>(files: &mut F, name: &str, bytes: &[u8]) -> io::Result<()>
     ensures { AsksOpened (λ opened. F.create_gives files.old name.now opened files.new)
-        (λ file answer after. F.File.write_gives file bytes.now answer after) result }
+        (λ file answer. F.File.write_gives file bytes.now answer) result }
 {
     match files.create_once(name) {
-        Ok(mut file) => file.write_all_once(bytes),
+        Ok(file) => file.write_all_once(bytes),
         Err(error) => Err(error),
     }
 }

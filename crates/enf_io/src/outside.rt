@@ -10,7 +10,8 @@ ghost use Rattle.std.specs.declared.alloc.Global.{Global as AnyGlobal};
 ghost use Rattle.std.specs.declared.io.Error.{Error};
 
 use std::alloc::Global;
-use std::io::{Read, Write};
+use std::fs::OpenFile;
+use std::io::{ErrorKind, Read, Write};
 use std::random::RandomSource;
 use std::{fs, io};
 
@@ -62,39 +63,46 @@ impl<W: Write> WriteOnce for W {
     }
 }
 
-/// A file that was opened, whose calls are told apart. Each file of std is one.
+/// A file that was opened, whose calls are told apart. A call takes the file, and code that is generic over the trait
+/// cannot copy one: so a file that was opened has one call. Each file of std is one.
 pub trait FileOnce {
-    ghost read_gives: { Self → ℕ → Result (AnyVec ℕ AnyGlobal) Error → Self → Type 0 };
+    ghost read_gives: { Self → ℕ → Result (AnyVec ℕ AnyGlobal) Error → Type 0 };
 
-    ghost write_gives: { Self → List ℕ → Result ⊤ Error → Self → Type 0 };
+    ghost write_gives: { Self → List ℕ → Result ⊤ Error → Type 0 };
 
     /// The bytes from here on, or the first `most` where there are more.
-    fn read_front_once(&mut self, alloc: Global, most: usize) -> io::Result<Vec<u8>>
+    fn read_front_once(self, alloc: Global, most: usize) -> io::Result<Vec<u8>>
         ensures within { IfOk result (λ bytes. length bytes.items ≤ most) }
-        ensures once { read_gives self.old most result self.new };
+        ensures once { read_gives self most result };
 
-    /// As `Write::write_all`, called once.
-    fn write_all_once(&mut self, bytes: &[u8]) -> io::Result<()>
-        ensures once { write_gives self.old bytes.now result self.new };
+    /// As `Write::write_all`, called once, and then as `File::sync_all`, so that an answer Ok says that the device has
+    /// the bytes. What cannot be synced, as a pipe, is not.
+    fn write_all_once(self, bytes: &[u8]) -> io::Result<()>
+        ensures once { write_gives self bytes.now result };
 }
 
-impl<F: Read + Write> FileOnce for F {
-    ghost read_gives = { λ before most answer after. IfOk answer (λ bytes. length bytes.items ≤ most) };
+impl<F: Read + Write + OpenFile + Drop> FileOnce for F {
+    ghost read_gives = { λ file most answer. IfOk answer (λ bytes. length bytes.items ≤ most) };
 
-    ghost write_gives = { λ before bytes answer after. ⊤ };
+    ghost write_gives = { λ file bytes answer. ⊤ };
 
     // Reads no further than `most` bytes, however long the file is.
-    fn read_front_once(&mut self, alloc: Global, most: usize) -> io::Result<Vec<u8>> {
+    fn read_front_once(mut self, alloc: Global, most: usize) -> io::Result<Vec<u8>> {
         let mut bytes = Vec::new(alloc);
-        Read::by_ref(self)
+        Read::by_ref(&mut self)
             .take(most as u64)
             .read_to_end(&mut bytes)?;
         bytes.truncate(most);
         Ok(bytes)
     }
 
-    fn write_all_once(&mut self, bytes: &[u8]) -> io::Result<()> {
-        self.write_all(bytes)
+    fn write_all_once(mut self, bytes: &[u8]) -> io::Result<()> {
+        self.write_all(bytes)?;
+        match self.sync_all() {
+            // The system's answer for what has no device to sync.
+            Err(error) if error.kind() == ErrorKind::InvalidInput => Ok(()),
+            answer => answer,
+        }
     }
 }
 

@@ -1,5 +1,5 @@
 -- How far a drill has come, one step more, and what is found at its end.
-use Rattle.enf_run.proofs.Vocabulary.{◌≡◌, ℕ, zero, suc, ◌+◌, ◌*◌, ◌^◌, ◌≤◌, List, [], ◌∷◌, ◌++◌, length, map, refl, sym, ap, subst, ◌∙◌, arith, cond, false, IfOk, Result, Ok, Err, Option, None}
+use Rattle.enf_run.proofs.Vocabulary.{◌≡◌, ℕ, zero, suc, ◌+◌, ◌-◌, ◌*◌, ◌^◌, ◌≤◌, List, [], ◌∷◌, ◌++◌, length, map, refl, sym, ap, subst, ◌∙◌, arith, cond, false, IfOk, Result, Ok, Err, Option, None}
 use Rattle.enf_run.proofs.Vocabulary.{Some, sum_by-append, ActedStep, is_inserted, steps_of, FollowsDrain, AreDistinct, Formula, HasNoRepeats, Step, StoredTyped, typed_of, Course, Enforcing}
 use Rattle.enf_run.proofs.Vocabulary.{policy_plans, enforcer_plans, acted_steps, FollowsToEnd, policy_operators as stored_operators, AnswersStep, Progress}
 use Rattle.enf_run.proofs.Vocabulary.{drawn_events, event_count, first_draw, generated, generated_records, generated_step, sample_entries, sample_rules, early, records_more, BoundFormula, tree_in}
@@ -96,7 +96,7 @@ module _ (laws : EnforcerLaws) (start : ℕ) (drill : Drill) (new : IsNewDrill d
   pub runs_more : (made : ℕ) (now after : Drill) (step : Step) → step ≡ generated_step start made
       → Runs start first made now → TakesCounted now (StepRecord step) after → Runs start first (made + 1) after
   runs_more made now after step same h t =
-      let few = laws.few now.enforcer (StepRecord step) t.made after.enforcer t.takes in
+      let few : length t.made.steps ≤ 1 + (step.time - now.enforcer.clock) = laws.few now.enforcer (StepRecord step) t.made after.enforcer t.takes in
       let moved = t.takes.goes_on in
       let time : step.time ≤ 7 * (made + 1) = omega (arith, ap (λ (s : Step). s.time) same, early start (suc made)) in
       let course = laws.goes_on first [] (generated_records start made) h.out now.enforcer (StepRecord step) t.made after.enforcer h.course t.takes.in_time t.takes.goes_on t.takes.stands t.takes.changed t.takes.decided in

@@ -1,5 +1,5 @@
 -- One turn more of the run of a log, and how it ends.
-use Rattle.enf_run.proofs.Vocabulary.{◌≡◌, ℕ, ◌+◌, ◌*◌, ◌-◌, ◌^◌, ◌<◌, ◌≤◌, List, [], ◌++◌, length, length-append, None, false, inl, inr, sym, ap, subst, ◌∙◌, arith, Enforcing, out_steps, Stands}
+use Rattle.enf_run.proofs.Vocabulary.{◌≡◌, ℕ, ◌+◌, ◌*◌, ◌-◌, ◌^◌, ◌<◌, ◌≤◌, List, [], ◌∷◌, ◌++◌, length, length-append, None, false, inl, inr, sym, ap, subst, ◌∙◌, arith, Enforcing, out_steps, Stands}
 use Rattle.enf_run.proofs.Vocabulary.{Step, Rule, text_of, behind_blanks, Reader, Input, BeginsWithRecord-shorter, behind-shorter, entry_names as names_of, NameEntry, UpToDate, LogSetting, reading_of}
 use Rattle.enf_run.proofs.Vocabulary.{SaysActions, Seen, most_log_bytes, record_of, EndsTurn, TakesBytes, CutsRun, HasPlans, enforcer_setting, AnswersTurn, CutsTurn, EnforcesLater, EnforcesOne}
 use Rattle.enf_run.proofs.Vocabulary.{IsNewLog, WritesNothing, reads_on, EnforcerLaws, Cut, Enforcement, Verdict}
@@ -7,7 +7,12 @@ use Rattle.enf_run.proofs.IntakeLemmas.{far_ended}
 use Rattle.enf_run.proofs.LogLemmas.{item_time}
 use Rattle.enf_run.proofs.TakenLogLemmas.{HasTaken, taken_more, taken_one}
 use Rattle.enf_run.proofs.LogProgressLemmas.{Ended, MayRun, Progress, cut_holding, cut_memory, cut_taken, progress_more, progress_none, progress_one, setting, up_to_date}
+use Rattle.trace_meaning.specs.meaning.Traces.{Record, StepRecord, Tick, recorded}
 use Rattle.enf_run.specs.declared.endings.Cut.TheVariants as cuts
+
+one_recorded : (next : Record) → length (recorded (next ∷ [])) ≤ 1
+one_recorded (StepRecord step) = omega arith
+one_recorded (Tick time) = omega arith
 
 module _ (entries : List NameEntry) (rules : List Rule) (first : Enforcing) (trace : List Step) (laws : EnforcerLaws) (may : MayRun entries first) (built : HasPlans entries rules first) where
   module _ (before : Seen) (old : Enforcement) (taken : List ℕ) (b c : Seen)
@@ -86,11 +91,12 @@ module _ (entries : List NameEntry) (rules : List Rule) (first : Enforcing) (law
       let t = one.takes in
       let takes = t.taken.takes in
       let few = laws.few old.enforcer (record_of t.item) t.taken.made new.enforcer takes in
+      let recorded_once = one_recorded (record_of t.item) in
       let moved = takes.goes_on in
       record {
         going = moved.goes_on;
         clock = omega (arith, moved.clock_is, item_time entries _ t.item t.begins.2);
-        position = omega (arith, takes.in_time.not_over, moved.clock_is, moved.position, few, one.accepted, limits.position);
+        position = omega (arith, takes.in_time.not_over, moved.clock_is, moved.position, few, recorded_once, one.accepted, limits.position);
       }
 
   piece_more : (later : EnforcesLater entries old new b c) → Done entries rules first before (taken ++ later.piece.bytes) new c

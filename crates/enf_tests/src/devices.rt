@@ -265,12 +265,13 @@ fn files_of_std_are_read_by_path(rt: HostRuntime) {
     let mut files = StdFiles::new(&rt);
     found.saved(files.write("enf_io_test.txt", b"rule hold"));
     found.file(files.read("enf_io_test.txt", 4));
+    found.file(files.read("enf_io_test.txt", 100));
     found.holds(fs::remove_file(&rt, "enf_io_test.txt").is_ok());
     found.file(files.read("enf_io_test.txt", 4));
     found.saved(files.write("", b"rule"));
     found.holds(files.draw("enf_io_test.txt").is_ok());
     assert_eq!(rt;
         found.text(),
-        b"saved|rule|yes|failed|failed|yes|".as_slice()
+        b"saved|rule|rule hold|yes|failed|failed|yes|".as_slice()
     );
 }

@@ -27,10 +27,6 @@ as_many causable suppressible [] (o ∷ out) are = absurd are
 as_many causable suppressible (step ∷ steps) [] are = absurd are
 as_many causable suppressible (step ∷ steps) (o ∷ out) are = ap suc (as_many causable suppressible steps out are.1)
 
-one_recorded : (next : Record) → length (recorded (next ∷ [])) ≤ 1
-one_recorded (StepRecord step) = omega arith
-one_recorded (Tick time) = omega arith
-
 -- where no record is taken, they are no more than the times that the clock rises by
 pub passed_are_few : (until : Option ℕ) (before : Enforcing) (out : List ActedStep) (after : Enforcing)
     → PassesDeadlines until before out after → length out ≤ after.clock - before.clock
@@ -46,5 +42,4 @@ takes_are_few before next made after takes =
     let few = rise_few before.clock (time_of next) out takes.in_time.not_over takes.rising in
     let lawful = takes.changed.lawful (λ name. true) (λ name. true) (record { caused = λ name is. refl; suppressed = λ name is. refl }) in
     let same = as_many (λ name. true) (λ name. true) (recorded (next ∷ [])) (system_steps (out_steps out)) lawful.changed in
-    let one = one_recorded next in
-    omega (arith, few, same, one, length-map made.steps acted_step)
+    omega (arith, few, same, length-map made.steps acted_step)

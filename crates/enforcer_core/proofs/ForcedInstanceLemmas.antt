@@ -2,7 +2,7 @@
 use Rattle.enforcer_core.proofs.Vocabulary.{◌≡◌, ◌&&◌, ◌==◌, ℕ, ◌≤◌, Bool, true, false, List, [], map, Contains, Option, None, Some, sym, subst, ◌∙◌, ⊎_elim, AllByRecursion, false≢true}
 use Rattle.enforcer_core.proofs.Vocabulary.{Contains-append_left, same_Some, AllByRecursion-contains, AllByRecursion-from_contains, Contains-map, Event, Step, VarId, Formula, EndsInTime, nodes, Plan}
 use Rattle.enforcer_core.proofs.Vocabulary.{CausePlan, SuppressPlan, Both, Either, TestOr, Guarded, EventuallyPlan, AlwaysPlan, UntilPlan, NextPlan, time_now, AreServed, IsInstanceServed}
-use Rattle.enforcer_core.proofs.Vocabulary.{is_forced_at, AtNode, IsNowIn, MissesAt, MissingOf, Pend, node_of, PendingWasBegun, PlansStand, CanAskOf, Action, Instance, Decides, MissesNothing, Waiting}
+use Rattle.enforcer_core.proofs.Vocabulary.{AtNode, IsNowIn, MissesAt, MissingOf, Pend, node_of, PendingWasBegun, PlansStand, CanAskOf, Action, Instance, Decides, MissesNothing, Waiting}
 use Rattle.enforcer_core.proofs.Vocabulary.{all_asked, is_forced, roots_from, trace_with_step, DecidedMissesNothing}
 use Rattle.enforcer_core.proofs.ClassLemmas.{self_in}
 use Rattle.enforcer_core.proofs.ReachLemmas.{at_end, ordered_window}
@@ -46,7 +46,7 @@ module _ (was_begun : PendingWasBegun) (nothing : DecidedMissesNothing) (guards 
   pub are_served : PlansStand plans → AllByRecursion (CanAskOf guards plans) pending → Pend plans trace pending
       → Decides plans trace pending inserted time before actions after → AreServed plans inserted longer pending
   are_served stand can pend decided =
-      AllByRecursion-from_contains (λ (i : Instance). is_forced_at inserted (time_now longer) i ≡ true → AtNode (node_of plans i) (λ node. IsInstanceServed longer node i)) pending
+      AllByRecursion-from_contains (λ (i : Instance). is_forced inserted (time_now longer) i ≡ true → AtNode (node_of plans i) (λ node. IsInstanceServed longer node i)) pending
       (λ i there forced.
       let ordered = window_ordered was_begun guards plans trace pending i stand (AllByRecursion-contains (CanAskOf guards plans) pending i can there) pend there in
       let now = at_end longer i ordered (forced_end inserted (time_now longer == i.high) forced) in

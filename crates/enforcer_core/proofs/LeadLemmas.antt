@@ -3,7 +3,7 @@ use Rattle.enforcer_core.proofs.Vocabulary.{◌≡◌, ◌⊎◌, ℕ, zero, suc
 use Rattle.enforcer_core.proofs.Vocabulary.{⊎_elim, unsigned_Decides, flat_map, cases_lt, false≢true, All-contains, same_Some, AllByRecursion-contains, here, later, there_from_get, Contains-from_map}
 use Rattle.enforcer_core.proofs.Vocabulary.{Contains-map, Event, NameId, IsCause, caused_at, caused_below, has_deadline, nodes, window_end, Plan, CausePlan, SuppressPlan, Both, Either, TestOr}
 use Rattle.enforcer_core.proofs.Vocabulary.{Guarded, EventuallyPlan, AlwaysPlan, UntilPlan, NextPlan, EndsLater, NodesStandIn, class_of, greatest, rank_in, with_deadlines, EdgesRise, needs_trigger}
-use Rattle.enforcer_core.proofs.Vocabulary.{Typed, WorkTogether, IsLeaf, LeadsAt, is_forced_at, AtNode, HasDeadline, NoneIsOver, node_of, BegunIsNamed, ReachedIsInside, IsBegunAt, IsBegunUnder}
+use Rattle.enforcer_core.proofs.Vocabulary.{Typed, WorkTogether, IsLeaf, LeadsAt, is_forced, AtNode, HasDeadline, NoneIsOver, node_of, BegunIsNamed, ReachedIsInside, IsBegunAt, IsBegunUnder}
 use Rattle.enforcer_core.proofs.Vocabulary.{IsReachedBy, HasPart, Action, Instance, LiteralKind, acted_among, ActsFrom, AreAskedActions, change_by, change_of, CausesAlone, LedDeadlinesFall}
 use Rattle.enforcer_core.proofs.Vocabulary.{LedStaysInReach, reach_of, widest_window}
 use Rattle.enforcer_core.proofs.ClassLemmas.{below_in, caused_in, class_below, class_higher, greatest_is, in_flat, least, least_behind, least_caused, nodes_in, self_in}
@@ -129,7 +129,7 @@ module _ (inside : ReachedIsInside) (named : BegunIsNamed) (stand : NodesStandIn
       within : Contains (nodes asked.plan) node
 
     abbrev Waited : Instance → Type 0
-    Waited j = Contains pending j × ((node : Plan) → node_of plans j ≡ Some node → has_deadline node ≡ true → is_forced_at inserted time j ≡ false)
+    Waited j = Contains pending j × ((node : Plan) → node_of plans j ≡ Some node → has_deadline node ≡ true → is_forced inserted time j ≡ false)
 
     led_from : (rule : ℕ) (start : Plan) → Asked rule start → (j : Instance) → IsBegunUnder events time position rule start j → IsLed j
     led_from rule start asked j (node, reached, begins) = record {
@@ -152,14 +152,14 @@ module _ (inside : ReachedIsInside) (named : BegunIsNamed) (stand : NodesStandIn
         (leads j there)
       where
         by : (i : Instance) → Contains pending i → (at : Option Plan) → node_of plans i ≡ at
-            → AtNode at (λ node. ((i ≡ j) × (has_deadline node ≡ true → is_forced_at inserted time i ≡ false))
+            → AtNode at (λ node. ((i ≡ j) × (has_deadline node ≡ true → is_forced inserted time i ≡ false))
             ⊎ ((part : Plan) × HasPart node part × IsBegunUnder events time position i.rule part j))
             → Waited j ⊎ IsLed j
         by i among None found comes = absurd comes
         by i among (Some node) found comes = ⊎_elim
             (λ waits. inl (
               subst (Contains pending) waits.0 among,
-              λ other is has. subst (λ (k : Instance). is_forced_at inserted time k ≡ false) waits.0
+              λ other is has. subst (λ (k : Instance). is_forced inserted time k ≡ false) waits.0
                   (waits.1 (subst (λ (n : Plan). has_deadline n ≡ true)
                   (same_Some other node (sym is ∙ ap (node_of plans) (sym waits.0) ∙ found)) has)),
             ))
@@ -243,7 +243,7 @@ module _ (inside : ReachedIsInside) (named : BegunIsNamed) (stand : NodesStandIn
           ⊎_elim (λ l. l)
           (λ g.
           let now : time ≡ j.high = omega (arith, g, least, d.3) in
-          absurd (false≢true (sym (waits d.0 d.1 d.2) ∙ subst (λ (b : Bool). is_forced_at b time j ≡ true) (sym forced) ((unsigned_Decides time j.high).1 now))))
+          absurd (false≢true (sym (waits d.0 d.1 d.2) ∙ subst (λ (b : Bool). is_forced b time j ≡ true) (sym forced) ((unsigned_Decides time j.high).1 now))))
           (cases_lt time deadline)
 
       pub led_later : (after : List Instance) → LeadsAt events time position plans inserted pending after → NoneIsOver plans after (time + 1)

@@ -27,7 +27,7 @@ pub use Rattle.choice_step.specs.machine.Laws.{ActionsAreLawful, AreDistinct, Ca
 pub use Rattle.choice_step.specs.machine.Laws.{SomeFollows, SomeInserts}
 pub use Rattle.choice_step.specs.machine.RuleTriggers.{AllSleep}
 pub use Rattle.choice_step.specs.meaning.ActedSteps.{ActedStep, AllAreJustified, Applies, AreJustified, StepIsJustified, as_it_came, change_by, change_of, out_step, out_steps, untouched}
-pub use Rattle.choice_step.specs.meaning.Choice.{Candidate, CandidateMisses, Decides, IsFirstMissing, MissesNothing, Root, Waiting, all_asked, is_forced, roots_from, trace_with_step}
+pub use Rattle.choice_step.specs.meaning.Choice.{Candidate, CandidateMisses, Decides, IsFirstMissing, MissesNothing, Root, Waiting, all_asked, roots_from, trace_with_step}
 pub use Rattle.choice_step.specs.meaning.Follows.{Follows, FollowsDrain, GoesOut, InsertsSteps, IsLeastDeadline, IsPassed, NoneIsPassed, StepGoesOut, is_inserted, steps_of}
 pub use Rattle.deadline_queue.specs.machine.Queues.{IsLeastOf}
 pub use Rattle.enf_data.proofs.Lists.{AllByRecursion-contains, AllByRecursion-find, AllByRecursion-from_contains, AllByRecursion-of_append, AllByRecursion-weaker, Contains-append, Contains-filter}
@@ -92,7 +92,7 @@ pub use Rattle.obligations.specs.machine.AskingLaws.{WellFormedCanBeAsked, WellF
 pub use Rattle.obligations.specs.machine.Leaves.{ChangesEvents, IsLeaf}
 pub use Rattle.obligations.specs.machine.Parts.{HasPart}
 pub use Rattle.obligations.specs.machine.PlanClasses.{LooksAtNow, PlansStand}
-pub use Rattle.obligations.specs.machine.Progress.{AreServed, IsInstanceServed, is_forced_at}
+pub use Rattle.obligations.specs.machine.Progress.{AreServed, IsInstanceServed}
 pub use Rattle.obligations.specs.machine.Residuals.{OwesAt, Residual}
 pub use Rattle.obligations.specs.machine.RightValues.{AreRight, GivesRight, GuardsGiveRight}
 pub use Rattle.obligations.specs.machine.SoundnessLaws.{AllHold, PendingIsEnough}
@@ -105,6 +105,7 @@ pub use Rattle.obligations.specs.machine.ValueLaws.{PendingIsRight}
 pub use Rattle.obligations.specs.meaning.Obligations.{Begun, Gathers, IsNeeded, LacksNothing, LacksSome, Missing, last_position, time_now}
 pub use Rattle.obligations.specs.meaning.Pending.{After, AtNode, BecomesAt, BegunByRoots, HasDeadline, IsClean, IsCleanAt, IsNowIn, IsReady, MissesAt, MissingOf, NoneIsOver, Pend, PendingAfter}
 pub use Rattle.obligations.specs.meaning.Pending.{node_of}
+pub use Rattle.obligations.specs.meaning.PendingBounds.{is_forced}
 pub use Rattle.obligations.specs.meaning.PendingBounds.{CanBePending}
 pub use Rattle.past_state.specs.declared.guards.PlacedGuard.{PlacedGuard}
 pub use Rattle.past_state.specs.declared.kept_rows.KeptRow.{KeptRow}

@@ -53,7 +53,8 @@ pub fn course()
     lawful_are_left_alone();
 }
 
-/// For a record few steps are emitted: at most one for each unit of time that the clock rises, and one more.
+/// For a record few steps are emitted: at most one for each unit of time that the clock rises, and that of the record,
+/// where it is no tick.
 pub fn takes_are_few()
     ensures { TakesAreFew }
 {}

@@ -23,6 +23,10 @@ front_ordered front more ordered i j le below =
     let end = ap (λ (s : Step). s.time) (get_or_append_left front more no_step j below) in
     omega (arith, start, end, ordered i j le (omega (arith, below, length-append front more)))
 
+-- what is pending after a trace, which is owed where the trace is clean
+abbrev pub IsPendingAs : List Plan → List Step → Instance → Plan → Type 0
+IsPendingAs plans trace i node = IsHeldAs (IsClean plans trace) plans trace i node
+
 -- ---- what continues a trace
 
 module _ (longer : List Step) (i : Instance) (clock : ℕ) (further : List Step)
@@ -87,10 +91,10 @@ module _ (lost : SomethingMissedIsLost) (stay : LostStaysLost) (owed_on : OwedSt
     (first : FoundIsFirst) (last : LastIsAtTheEnd) (plans : List Plan) (stand : PlansStand plans) where
   -- ---- along a trace
 
-  module _ (trace : List Step) (ordered : AreOrdered trace) (clean : IsClean plans trace) where
-    in_time : (n : ℕ) → n < length trace → (before : List Instance) → PendsBehind plans trace n before
+  module _ (trace : List Step) (ordered : AreOrdered trace) where
+    in_time : IsClean plans trace → (n : ℕ) → n < length trace → (before : List Instance) → PendsBehind plans trace n before
         → NoneIsOver plans before (time_now (take (suc n) trace))
-    in_time n there before pend =
+    in_time clean n there before pend =
         let c = clean n there in
         let same : c.0 ≡ before = pends_one rows_are_one plans trace n c.0 before c.1 pend in
         let count : length (take (suc n) trace) ≡ suc n = length-take-le (suc n) trace (omega (arith, there)) in
@@ -99,42 +103,42 @@ module _ (lost : SomethingMissedIsLost) (stay : LostStaysLost) (owed_on : OwedSt
         (subst (λ (l : List Instance). NoneIsOver plans l (last_time (take (suc n) trace))) same c.2.in_time)
 
     held_behind : (n : ℕ) → n ≤ length trace → (pending : List Instance) → PendsBehind plans trace n pending
-        → (i : Instance) → Contains pending i → IsHeld plans (take n trace) i
+        → (i : Instance) → Contains pending i → IsHeld (IsClean plans trace) plans (take n trace) i
     held_behind zero le pending none i there =
         absurd (none_in_nil i (subst (λ (l : List Instance). Contains l i) none there))
     held_behind (suc n) le pending (before, pend, goes) i there =
         let splits : take (suc n) trace ≡ take n trace ++ step_at trace n ∷ [] = take-suc trace n no_step (omega (arith, le)) in
         let front : AreOrdered (take (suc n) trace) = front_ordered (take (suc n) trace) (drop (suc n) trace) (subst AreOrdered (sym (take-append-drop (suc n) trace)) ordered) in
-        subst (λ (t : List Step). IsHeld plans t i) (sym splits)
+        subst (λ (t : List Step). IsHeld (IsClean plans trace) plans t i) (sym splits)
         (goes_held lost stay owed_on leads_on first plans stand (take n trace) (step_at trace n) (subst AreOrdered splits front)
         before pending (λ j there'. held_behind n (omega (arith, le)) before pend j there')
-        (subst (λ (t : List Step). NoneIsOver plans before (time_now t)) splits (in_time n (omega (arith, le)) before pend))
+        (λ clean. subst (λ (t : List Step). NoneIsOver plans before (time_now t)) splits (in_time clean n (omega (arith, le)) before pend))
         (subst (λ (t : List Step). PendingAfter plans t before pending) splits goes) i there)
 
     pub held : (pending : List Instance) (i : Instance) (node : Plan) → PendsBehind plans trace (length trace) pending → Contains pending i
-        → node_of plans i ≡ Some node → IsHeldAs plans trace i node
+        → node_of plans i ≡ Some node → IsPendingAs plans trace i node
     held pending i node pend there named =
-        let h : IsHeld plans trace i = subst (λ (t : List Step). IsHeld plans t i) (take_all (length trace) trace (omega arith)) (held_behind (length trace) (omega arith) pending pend i there) in
-        subst (IsHeldAs plans trace i) (same_Some h.0 node (sym h.1.named ∙ named)) h.1
+        let h : IsHeld (IsClean plans trace) plans trace i = subst (λ (t : List Step). IsHeld (IsClean plans trace) plans t i) (take_all (length trace) trace (omega arith)) (held_behind (length trace) (omega arith) pending pend i there) in
+        subst (IsPendingAs plans trace i) (same_Some h.0 node (sym h.1.named ∙ named)) h.1
 
   pub pending_is_owed : (trace : List Step) (clock : ℕ) (pending : List Instance) (i : Instance) (node : Plan) → IsTrace trace
       → IsClean plans trace → PendsBehind plans trace (length trace) pending → Contains pending i
       → node_of plans i ≡ Some node → IsOwed plans trace clock i.rule node i.valuation i.origin
   pending_is_owed trace clock pending i node is_trace clean pend there named =
-      let h = held trace is_trace.ordered clean pending i node pend there named in
+      let h = held trace is_trace.ordered pending i node pend there named in
       subst (λ (t : List Step). IsOwed plans t clock i.rule node i.valuation i.origin) (append-nil trace)
       (owed_on plans trace [] 0 clock i.rule node i.valuation i.origin (λ root at. (stand i.rule root at).back)
-      (λ k d below. absurd (omega (arith, below))) (omega arith) h.owed)
+      (λ k d below. absurd (omega (arith, below))) (omega arith) (h.owed clean))
 
   pub pending_is_earlier : (trace : List Step) (pending : List Instance) (i : Instance) (node : Plan) → IsTrace trace
-      → IsClean plans trace → PendsBehind plans trace (length trace) pending → Contains pending i
-      → node_of plans i ≡ Some node → i.origin < length trace
-  pending_is_earlier trace pending i node is_trace clean pend there named =
-      (held trace is_trace.ordered clean pending i node pend there named).begun
+      → PendsBehind plans trace (length trace) pending → Contains pending i → node_of plans i ≡ Some node
+      → i.origin < length trace
+  pending_is_earlier trace pending i node is_trace pend there named =
+      (held trace is_trace.ordered pending i node pend there named).begun
 
   -- ---- after a deadline
 
-  lost_over : (trace : List Step) (i : Instance) (node : Plan) → IsHeldAs plans trace i node → has_deadline node ≡ true
+  lost_over : (trace : List Step) (i : Instance) (node : Plan) → IsPendingAs plans trace i node → has_deadline node ≡ true
       → IsLost trace (i.high + 1) node i.valuation i.origin
   lost_over trace i (EventuallyPlan node place low high body) h is further continued holds =
       holds (λ met. met_never trace i (i.high + 1) further continued low high body h.begun h.window (omega arith) h.waited met.0 met.1 met.2 met.3 met.4)
@@ -156,7 +160,7 @@ module _ (lost : SomethingMissedIsLost) (stay : LostStaysLost) (owed_on : OwedSt
   lost_over trace i (TestOr node guard test body) h is further continued holds = false≢true is
   lost_over trace i (Guarded node xs guard test body) h is further continued holds = false≢true is
 
-  ends_over : (trace : List Step) (i : Instance) (node : Plan) → IsHeldAs plans trace i node → has_deadline node ≡ true
+  ends_over : (trace : List Step) (i : Instance) (node : Plan) → IsPendingAs plans trace i node → has_deadline node ≡ true
       → (step_at trace i.origin).time + window_end node ≡ i.high
   ends_over trace i (EventuallyPlan node place low high body) h is = sym h.window.1
   ends_over trace i (UntilPlan node place low high left right) h is = sym h.window.1
@@ -178,7 +182,7 @@ module _ (lost : SomethingMissedIsLost) (stay : LostStaysLost) (owed_on : OwedSt
       by : (at : Option Plan) → node_of plans i ≡ at → AtNode at (λ n. (has_deadline n ≡ true) × (i.high ≡ deadline)) → IsNeeded plans trace deadline
       by None at none = absurd none
       by (Some node) at is =
-          let h = held trace is_trace.ordered clean pending i node pend there at in record {
+          let h = held trace is_trace.ordered pending i node pend there at in record {
             rule = i.rule;
             node = node;
             valuation = i.valuation;
@@ -204,7 +208,7 @@ module _ (lost : SomethingMissedIsLost) (stay : LostStaysLost) (owed_on : OwedSt
     some : 0 < length longer
     some = omega (arith, count)
 
-    lost_at : (node : Plan) → IsHeldAs plans trace i node → StandsIn plans i.rule node → (forced : Bool)
+    lost_at : (node : Plan) → IsPendingAs plans trace i node → StandsIn plans i.rule node → (forced : Bool)
         → (forced ≡ true → step.time ≡ i.high) → (l : Literal) (ls : List Literal) → MissesAt longer node i forced (l ∷ ls)
         → IsLost longer (time_behind forced step.time) node i.valuation i.origin
     lost_at (CausePlan node place name terms) h stands forced due l ls misses further continued holds = absurd misses
@@ -273,13 +277,12 @@ module _ (lost : SomethingMissedIsLost) (stay : LostStaysLost) (owed_on : OwedSt
             (each now (omega (arith, start)) (omega (arith, behind, some)))
 
   pub missed_is_lost : (trace : List Step) (step : Step) (pending : List Instance) (i : Instance) (node : Plan) (forced : Bool)
-      (l : Literal) (ls : List Literal) → IsTrace (trace ++ step ∷ []) → IsClean plans trace
-      → PendsBehind plans trace (length trace) pending → Contains pending i → node_of plans i ≡ Some node
-      → (forced ≡ true → step.time ≡ i.high)
+      (l : Literal) (ls : List Literal) → IsTrace (trace ++ step ∷ []) → PendsBehind plans trace (length trace) pending
+      → Contains pending i → node_of plans i ≡ Some node → (forced ≡ true → step.time ≡ i.high)
       → AtNode (node_of plans i) (λ n. MissesAt (trace ++ step ∷ []) n i forced (l ∷ ls))
       → IsLost (trace ++ step ∷ []) (time_behind forced step.time) node i.valuation i.origin
-  missed_is_lost trace step pending i node forced l ls is_trace clean pend there named due misses =
+  missed_is_lost trace step pending i node forced l ls is_trace pend there named due misses =
       lost_at trace step is_trace.ordered i node
-      (held trace (front_ordered trace (step ∷ []) is_trace.ordered) clean pending i node pend there named)
+      (held trace (front_ordered trace (step ∷ []) is_trace.ordered) pending i node pend there named)
       (stands_found first plans stand i node named) forced due l ls
       (subst (λ (n : Option Plan). AtNode n (λ m. MissesAt (trace ++ step ∷ []) m i forced (l ∷ ls))) named misses)

@@ -2,10 +2,10 @@
 use Rattle.obligations.proofs.Vocabulary.{◌≡◌, ℕ, ◌+◌, ◌<◌, ◌≤◌, Bool, true, false, List, [], ◌∷◌, ◌++◌, length, Contains, Option, Some, inl, inr, ⊎_elim, refl, sym, ap, subst, ◌∙◌, arith}
 use Rattle.obligations.proofs.Vocabulary.{length-append, get_or-append-add, step_at, no_step, none_in_nil, Step, LastIsAtTheEnd, EndsInTime, IsLost, IsAhead, obligation, LostStaysLost, LeadsOn}
 use Rattle.obligations.proofs.Vocabulary.{OwedLeadsOn, OwedStaysOwed, FoundIsFirst, has_deadline, Plan, CausePlan, SuppressPlan, Both, Either, TestOr, Guarded, EventuallyPlan, AlwaysPlan, UntilPlan}
-use Rattle.obligations.proofs.Vocabulary.{NextPlan, StandsIn, IfElse, time_now, ServesLiteral, Missing, last_position, SomethingMissedIsLost, AtNode, HasDeadline, IsClean, MissesAt, NoneIsOver}
+use Rattle.obligations.proofs.Vocabulary.{NextPlan, StandsIn, IfElse, time_now, ServesLiteral, Missing, last_position, SomethingMissedIsLost, AtNode, HasDeadline, MissesAt, NoneIsOver}
 use Rattle.obligations.proofs.Vocabulary.{PendsBehind, node_of, PlansStand, Instance, Literal}
-use Rattle.obligations.proofs.PendingOwedLemmas.{IsFrom, IsHeldAs, from_start, is_ahead, lost_before, waits_more, window_still}
-use Rattle.obligations.proofs.LossLemmas.{front_ordered, held}
+use Rattle.obligations.proofs.PendingOwedLemmas.{IsFrom, from_start, is_ahead, lost_before, waits_more, window_still}
+use Rattle.obligations.proofs.LossLemmas.{IsPendingAs, front_ordered, held}
 use Rattle.obligations.proofs.InstanceLeadLemmas.{left_stands, right_stands}
 use Rattle.obligations.proofs.LiteralLeadLemmas.{missed_is_served, onto, served_at}
 use Rattle.obligations.proofs.TraceLemmas.{stands_found}
@@ -46,7 +46,7 @@ module _ (lost : SomethingMissedIsLost) (stay : LostStaysLost) (owed_on : OwedSt
       is_ahead lost stay owed_on leads_on first plans stand trace step ordered low high i window (omega (arith, before, count))
       (inr (omega (arith, from, upto, order, due, time_is))) (omega (arith, due, time_is))
 
-  serve_at : (node : Plan) → IsHeldAs plans trace i node → StandsIn plans i.rule node → EndsInTime node → (forced : Bool)
+  serve_at : (node : Plan) → IsPendingAs plans trace i node → StandsIn plans i.rule node → EndsInTime node → (forced : Bool)
       → (forced ≡ true → step.time ≡ i.high) → (has_deadline node ≡ true → step.time ≤ i.high)
       → (literals : List Literal) (literal : Literal) → MissesAt longer node i forced literals → Contains literals literal
       → Led node literal
@@ -106,12 +106,12 @@ module _ (lost : SomethingMissedIsLost) (stay : LostStaysLost) (owed_on : OwedSt
           (missed_is_served lost plans i.rule longer some left on_left i.valuation literals literal missing there)
 
   pub pending_is_served : LeadsOn → (clock : ℕ) (pending : List Instance) (node : Plan) (forced : Bool) (literals : List Literal) (literal : Literal)
-      → IsClean plans trace → PendsBehind plans trace (length trace) pending → NoneIsOver plans pending step.time
+      → PendsBehind plans trace (length trace) pending → NoneIsOver plans pending step.time
       → Contains pending i → node_of plans i ≡ Some node → EndsInTime node → (forced ≡ true → step.time ≡ i.high)
       → AtNode (node_of plans i) (λ n. MissesAt longer n i forced literals) → Contains literals literal
       → ServesLiteral longer clock (obligation node i.valuation i.origin) literal
-  pending_is_served leads clock pending node forced literals literal clean pend none_over there named ends due misses at =
-      let h = held lost stay owed_on leads_on first last plans stand trace (front_ordered trace (step ∷ []) ordered) clean pending i node pend there named in
+  pending_is_served leads clock pending node forced literals literal pend none_over there named ends due misses at =
+      let h = held lost stay owed_on leads_on first last plans stand trace (front_ordered trace (step ∷ []) ordered) pending i node pend there named in
       let stands = stands_found first plans stand i node named in
       let before = h.begun in
       served_at leads longer clock (obligation node i.valuation i.origin) literal stands.back (omega (arith, before, count))

@@ -31,15 +31,17 @@ HasWaited trace (UntilPlan node place low high left right) i =
 HasWaited trace (NextPlan node place high body) i = i.origin + 1 ≡ length trace
 HasWaited trace plan i = Unit {0}
 
-pub record IsHeldAs (plans : List Plan) (trace : List Step) (i : Instance) (node : Plan) : Type 0 where
+-- what is pending; it is owed where some condition holds
+pub record IsHeldAs (Condition : Type 0) (plans : List Plan) (trace : List Step) (i : Instance) (node : Plan)
+    : Type 0 where
   pub named : node_of plans i ≡ Some node
   pub begun : i.origin < length trace
   pub window : HasWindow (step_at trace i.origin).time node i
-  pub owed : IsOwed plans trace 0 i.rule node i.valuation i.origin
+  pub owed : Condition → IsOwed plans trace 0 i.rule node i.valuation i.origin
   pub waited : HasWaited trace node i
 
-abbrev pub IsHeld : List Plan → List Step → Instance → Type 0
-IsHeld plans trace i = (node : Plan) × IsHeldAs plans trace i node
+abbrev pub IsHeld : Type 0 → List Plan → List Step → Instance → Type 0
+IsHeld Condition plans trace i = (node : Plan) × IsHeldAs Condition plans trace i node
 
 module _ (lost : SomethingMissedIsLost) (stay : LostStaysLost) (owed_on : OwedStaysOwed) (leads_on : OwedLeadsOn)
     (first : FoundIsFirst) (plans : List Plan) (stand : PlansStand plans) (trace : List Step) (step : Step)
@@ -190,15 +192,15 @@ module _ (lost : SomethingMissedIsLost) (stay : LostStaysLost) (owed_on : OwedSt
   waited_anew (TestOr node guard test body) i back here window waits = tt
   waited_anew (Guarded node xs guard test body) i back here window waits = tt
 
-  anew : (rule : ℕ) (plan : Plan) (v : Valuation) (i : Instance) → IsOwed plans longer 0 rule plan v now
-      → IsLed plans longer rule plan v i → IsHeld plans longer i
-  anew rule plan v i owed led =
+  anew : {Condition : Type 0} (rule : ℕ) (plan : Plan) (v : Valuation) (i : Instance)
+      → (Condition → IsOwed plans longer 0 rule plan v now) → IsLed plans longer rule plan v i → IsHeld Condition plans longer i
+  anew {Condition = Condition} rule plan v i owed led =
       let is = names rule led.node i led.is in
       let window : HasWindow (step_at longer i.origin).time led.node i =
       subst (λ (o : ℕ). HasWindow (step_at longer o).time led.node i) is.2 is.3 in
-      let by_rule : IsOwed plans longer 0 i.rule led.node i.valuation now =
+      let by_rule : Condition → IsOwed plans longer 0 i.rule led.node i.valuation now = λ so.
       subst (λ (r : ℕ). IsOwed plans longer 0 r led.node i.valuation now) is.0
-      (leads_on plans longer 0 rule plan v now led.moves (obligation led.node i.valuation now) owed led.leads) in
+      (leads_on plans longer 0 rule plan v now led.moves (obligation led.node i.valuation now) (owed so) led.leads) in
       let here = is.2 in (
         led.node,
         record {
@@ -206,7 +208,7 @@ module _ (lost : SomethingMissedIsLost) (stay : LostStaysLost) (owed_on : OwedSt
               (subst (λ (r : ℕ). node_in plans r (node_number led.node) ≡ Some led.node) is.0 led.named);
           begun = omega (arith, here, some);
           window = window;
-          owed = subst (λ (o : ℕ). IsOwed plans longer 0 i.rule led.node i.valuation o) is.2 by_rule;
+          owed = λ so. subst (λ (o : ℕ). IsOwed plans longer 0 i.rule led.node i.valuation o) is.2 (by_rule so);
           waited = waited_anew led.node i led.stands.back is.2 window led.waits;
         },
       )
@@ -216,14 +218,17 @@ module _ (lost : SomethingMissedIsLost) (stay : LostStaysLost) (owed_on : OwedSt
   same_time : (i : Instance) → i.origin < length trace → (step_at trace i.origin).time ≡ (step_at longer i.origin).time
   same_time i there = ap (λ (s : Step). s.time) (sym (same_step i.origin there))
 
-  pub owed_still : (i : Instance) (node : Plan) → IsHeldAs plans trace i node → IsOwed plans longer 0 i.rule node i.valuation i.origin
-  owed_still i node held =
-      owed_on plans trace (step ∷ []) 0 0 i.rule node i.valuation i.origin (looks_back i.rule) given (omega arith) held.owed
+  owed_still : {Condition : Type 0} (i : Instance) (node : Plan) → IsHeldAs Condition plans trace i node → Condition
+      → IsOwed plans longer 0 i.rule node i.valuation i.origin
+  owed_still i node held so =
+      owed_on plans trace (step ∷ []) 0 0 i.rule node i.valuation i.origin (looks_back i.rule) given (omega arith) (held.owed so)
 
-  pub window_still : (i : Instance) (node : Plan) → IsHeldAs plans trace i node → HasWindow (step_at longer i.origin).time node i
+  pub window_still : {Condition : Type 0} (i : Instance) (node : Plan) → IsHeldAs Condition plans trace i node
+      → HasWindow (step_at longer i.origin).time node i
   window_still i node held = subst (λ (t : ℕ). HasWindow t node i) (same_time i held.begun) held.window
 
-  stays : (i : Instance) (node : Plan) → IsHeldAs plans trace i node → HasWaited longer node i → IsHeld plans longer i
+  stays : {Condition : Type 0} (i : Instance) (node : Plan) → IsHeldAs Condition plans trace i node → HasWaited longer node i
+      → IsHeld Condition plans longer i
   stays i node held waited =
       let before = held.begun in (
         node,
@@ -236,28 +241,30 @@ module _ (lost : SomethingMissedIsLost) (stay : LostStaysLost) (owed_on : OwedSt
         },
       )
 
-  stays_alone : (i : Instance) (node : Plan) → IsHeldAs plans trace i node → HasWaited longer node i
-      → (after : List Instance) (j : Instance) → after ≡ i ∷ [] → Contains after j → IsHeld plans longer j
-  stays_alone i node held waited after j is there =
-      ⊎_elim (λ (same : i ≡ j). subst (IsHeld plans longer) same (stays i node held waited)) (λ none. absurd (none_in_nil j none))
+  stays_alone : {Condition : Type 0} (i : Instance) (node : Plan) → IsHeldAs Condition plans trace i node → HasWaited longer node i
+      → (after : List Instance) (j : Instance) → after ≡ i ∷ [] → Contains after j → IsHeld Condition plans longer j
+  stays_alone {Condition = Condition} i node held waited after j is there =
+      ⊎_elim (λ (same : i ≡ j). subst (IsHeld Condition plans longer) same (stays i node held waited)) (λ none. absurd (none_in_nil j none))
       (first_or_later j i [] (subst (λ (l : List Instance). Contains l j) is there))
 
   -- what a part begins to which the node leads here
-  by_part : (i : Instance) (node : Plan) → IsHeldAs plans trace i node → (part : Plan) → StandsIn plans i.rule part
-      → LeadsTo longer 0 node i.valuation i.origin (obligation part i.valuation now)
+  by_part : {Condition : Type 0} (i : Instance) (node : Plan) → IsHeldAs Condition plans trace i node → (part : Plan)
+      → StandsIn plans i.rule part
+      → (Condition → LeadsTo longer 0 node i.valuation i.origin (obligation part i.valuation now))
       → (after : List Instance) (j : Instance) → Begun longer i.rule part i.valuation after → Contains after j
-      → IsHeld plans longer j
+      → IsHeld Condition plans longer j
   by_part i node held part stands to after j begins there =
       anew i.rule part i.valuation j
-      (leads_on plans longer 0 i.rule node i.valuation i.origin (obligation part i.valuation now ∷ []) (obligation part i.valuation now) (owed_still i node held) (to, refl))
+      (λ so. leads_on plans longer 0 i.rule node i.valuation i.origin (obligation part i.valuation now ∷ []) (obligation part i.valuation now) (owed_still i node held so) (to so, refl))
       (begun_is_led lost plans i.rule longer some part stands i.valuation after j begins there)
 
-  stays_before : (i : Instance) (node : Plan) → IsHeldAs plans trace i node → HasWaited longer node i → (part : Plan)
-      → StandsIn plans i.rule part → LeadsTo longer 0 node i.valuation i.origin (obligation part i.valuation now)
+  stays_before : {Condition : Type 0} (i : Instance) (node : Plan) → IsHeldAs Condition plans trace i node → HasWaited longer node i
+      → (part : Plan) → StandsIn plans i.rule part
+      → (Condition → LeadsTo longer 0 node i.valuation i.origin (obligation part i.valuation now))
       → (after : List Instance) (j : Instance) → WithBehind i (Begun longer i.rule part i.valuation) after → Contains after j
-      → IsHeld plans longer j
-  stays_before i node held waited part stands to after j (more, behind, is) there =
-      ⊎_elim (λ (same : i ≡ j). subst (IsHeld plans longer) same (stays i node held waited))
+      → IsHeld Condition plans longer j
+  stays_before {Condition = Condition} i node held waited part stands to after j (more, behind, is) there =
+      ⊎_elim (λ (same : i ≡ j). subst (IsHeld Condition plans longer) same (stays i node held waited))
       (λ there'. by_part i node held part stands to more j behind there')
       (first_or_later j i more (subst (λ (l : List Instance). Contains l j) is there))
 
@@ -269,9 +276,9 @@ module _ (lost : SomethingMissedIsLost) (stay : LostStaysLost) (owed_on : OwedSt
       stay trace (step ∷ []) 0 0 part i.valuation k given (omega arith)
       (before k (was_ahead low high i.origin k (omega (arith, earlier, at_end)) ahead))
 
-  became : (i : Instance) (node : Plan) → IsHeldAs plans trace i node → StandsIn plans i.rule node
-      → (has_deadline node ≡ true → time_now longer ≤ i.high) → (after : List Instance) (j : Instance)
-      → BecomesAt longer node i after → Contains after j → IsHeld plans longer j
+  became : {Condition : Type 0} (i : Instance) (node : Plan) → IsHeldAs Condition plans trace i node → StandsIn plans i.rule node
+      → (Condition → has_deadline node ≡ true → time_now longer ≤ i.high) → (after : List Instance) (j : Instance)
+      → BecomesAt longer node i after → Contains after j → IsHeld Condition plans longer j
   became i (CausePlan node place name terms) held stands in_time after j becomes there = absurd becomes
   became i (SuppressPlan node place name terms) held stands in_time after j becomes there = absurd becomes
   became i (Both node left right) held stands in_time after j becomes there = absurd becomes
@@ -283,7 +290,7 @@ module _ (lost : SomethingMissedIsLost) (stay : LostStaysLost) (owed_on : OwedSt
       let window = window_still i (EventuallyPlan node place low high body) held in
       ⊎_elim
       (λ met. by_part i (EventuallyPlan node place low high body) held body (record { back = stands.back.1; named = stands.named.1 })
-      (now, is_ahead low high i window (omega (arith, before, at_end)) (inr met.0.0) met.0.1, lost_before low high body i held.waited, refl)
+      (λ so. (now, is_ahead low high i window (omega (arith, before, at_end)) (inr met.0.0) met.0.1, lost_before low high body i held.waited, refl))
       after j met.2 there)
       (λ waits. stays_alone i (EventuallyPlan node place low high body) held
       (waits_more low high body stands.back.1 i window waits.0 held.waited) after j waits.1 there)
@@ -295,7 +302,7 @@ module _ (lost : SomethingMissedIsLost) (stay : LostStaysLost) (owed_on : OwedSt
       (λ early. stays_alone i (AlwaysPlan node place low high body) held tt after j early.1 there)
       (λ other. ⊎_elim
       (λ met. stays_before i (AlwaysPlan node place low high body) held tt body (record { back = stands.back.1; named = stands.named.1 })
-      (now, is_ahead low high i window (omega (arith, before, at_end)) (inr met.0.0) met.0.1, refl)
+      (λ so. (now, is_ahead low high i window (omega (arith, before, at_end)) (inr met.0.0) met.0.1, refl))
       after j met.1 there)
       (λ over. absurd (none_in_nil j (subst (λ (l : List Instance). Contains l j) over.2 there)))
       other)
@@ -306,44 +313,45 @@ module _ (lost : SomethingMissedIsLost) (stay : LostStaysLost) (owed_on : OwedSt
       let on_right = right_stands plans i.rule left right stands.back.1 stands.named.1 in
       ⊎_elim
       (λ met. by_part i (UntilPlan node place low high left right) held right on_right
-      (inl (now, is_ahead low high i window (omega (arith, before, at_end)) (inr met.0.0) met.0.1, lost_before low high right i held.waited, refl))
+      (λ so. inl (now, is_ahead low high i window (omega (arith, before, at_end)) (inr met.0.0) met.0.1, lost_before low high right i held.waited, refl))
       after j met.2 there)
       (λ waits.
       let waited = waits_more low high right on_right.back i window waits.0 held.waited in
       stays_before i (UntilPlan node place low high left right) held waited left (left_stands plans i.rule left right stands.back.1 stands.named.1)
-      (inr (now, from_start i low high window (omega (arith, before, at_end)) (in_time refl), (λ k ahead le. waited k ahead), refl))
+      (λ so. inr (now, from_start i low high window (omega (arith, before, at_end)) (in_time so refl), (λ k ahead le. waited k ahead), refl))
       after j waits.1 there)
       becomes
   became i (NextPlan node place high body) held stands in_time after j becomes there =
       let next : i.origin + 1 ≡ now = held.waited ∙ sym at_end in
       by_part i (NextPlan node place high body) held body (record { back = stands.back.1; named = stands.named.1 })
-      (omega (arith, next, some), ap (λ (k : ℕ). obligation body i.valuation k) next) after j becomes there
+      (λ so. (omega (arith, next, some), ap (λ (k : ℕ). obligation body i.valuation k) next)) after j becomes there
 
   -- ---- one step
 
-  after_held : (i : Instance) → IsHeld plans trace i → ((deadline : ℕ) → HasDeadline plans i deadline → time_now longer ≤ deadline)
-      → (after : List Instance) (j : Instance) → After plans longer i after → Contains after j → IsHeld plans longer j
+  after_held : {Condition : Type 0} (i : Instance) → IsHeld Condition plans trace i
+      → (Condition → (deadline : ℕ) → HasDeadline plans i deadline → time_now longer ≤ deadline)
+      → (after : List Instance) (j : Instance) → After plans longer i after → Contains after j → IsHeld Condition plans longer j
   after_held i (node, held) in_time after j becomes there =
       became i node held (stands_found first plans stand i node held.named)
-      (λ is. in_time i.high (subst (λ (n : Option Plan). AtNode n (λ m. (has_deadline m ≡ true) × (i.high ≡ i.high))) (sym held.named) (is, refl)))
+      (λ so is. in_time so i.high (subst (λ (n : Option Plan). AtNode n (λ m. (has_deadline m ≡ true) × (i.high ≡ i.high))) (sym held.named) (is, refl)))
       after j (subst (λ (n : Option Plan). AtNode n (λ m. BecomesAt longer m i after)) held.named becomes) there
 
-  root_held : (rule : ℕ) (plan : Plan) → slice_get plans rule ≡ Some plan → (begun : List Instance) (j : Instance)
-      → Begun longer rule plan no_values begun → Contains begun j → IsHeld plans longer j
+  root_held : {Condition : Type 0} (rule : ℕ) (plan : Plan) → slice_get plans rule ≡ Some plan → (begun : List Instance) (j : Instance)
+      → Begun longer rule plan no_values begun → Contains begun j → IsHeld Condition plans longer j
   root_held rule plan at begun j begins there =
       anew rule plan no_values j
-      (record { root = plan; of_rule = at; begun = now; there = omega (arith, some); moves = []; leads = refl })
+      (λ so. record { root = plan; of_rule = at; begun = now; there = omega (arith, some); moves = []; leads = refl })
       (begun_is_led lost plans rule longer some plan (stand rule plan at) no_values begun j begins there)
 
-  pub goes_held : (before after : List Instance) → ((i : Instance) → Contains before i → IsHeld plans trace i)
-      → NoneIsOver plans before (time_now longer) → PendingAfter plans longer before after → (j : Instance) → Contains after j
-      → IsHeld plans longer j
+  pub goes_held : {Condition : Type 0} (before after : List Instance) → ((i : Instance) → Contains before i → IsHeld Condition plans trace i)
+      → (Condition → NoneIsOver plans before (time_now longer)) → PendingAfter plans longer before after → (j : Instance)
+      → Contains after j → IsHeld Condition plans longer j
   goes_held before after held in_time (kept, begun, goes, begins, are) j there =
       ⊎_elim
       (λ front.
       let from = Gathers-contains (After plans longer) before kept j goes front in
       after_held from.0 (held from.0 from.1)
-      (λ deadline has. subst (λ (i : Instance). (d : ℕ) → HasDeadline plans i d → time_now longer ≤ d) from.1.2 (in_time from.1.0 from.0 from.1.1) deadline has)
+      (λ so deadline has. subst (λ (i : Instance). (d : ℕ) → HasDeadline plans i d → time_now longer ≤ d) from.1.2 (in_time so from.1.0 from.0 from.1.1) deadline has)
       from.2 j from.3 from.4)
       (λ back.
       let root = BegunByRoots-contains longer 0 plans begun j begins back in

@@ -2,7 +2,7 @@
 use Rattle.obligations.proofs.Vocabulary.{◌≡◌, ◌⊎◌, ◌∙◌, Contains, inl, inr, ⊎_elim, ℕ, Bool, true, false, cond, List, [], ◌∷◌, ◌++◌, Option, Some, None, ap, refl, subst, sym, IfSome, AllByRecursion}
 use Rattle.obligations.proofs.Vocabulary.{none-some, same_Some, AllByRecursion-contains, AllByRecursion-from_contains, Contains-append, first_or_later, none_in_nil, Step, GuardLooksBack, EndsInTime}
 use Rattle.obligations.proofs.Vocabulary.{has_deadline, nodes, Plan, FoundIsFirst, IsNodeByNumber, StandsIn, AddsAsked, IsBegunHere, IsNowOf, guards_at, AreServed, BegunFor, IsInstanceServed}
-use Rattle.obligations.proofs.Vocabulary.{WillBecome, is_forced_at, ComesOf, IsAskedPart, HasPart, After, AtNode, BecomesAt, node_of, PlansStand, CanAskOf, Instance, Now}
+use Rattle.obligations.proofs.Vocabulary.{WillBecome, is_forced, ComesOf, IsAskedPart, HasPart, After, AtNode, BecomesAt, node_of, PlansStand, CanAskOf, Instance, Now}
 use Rattle.obligations.proofs.TraceLemmas.{stands_found}
 
 -- what was put in an empty list can be asked
@@ -24,7 +24,7 @@ all_begun now rule plan P before after none added j there =
 module _ (now : Now) (plans : List Plan) (inserted : Bool) (i : Instance) (can : CanAskOf (guards_at now.tables.now) plans i)
     (node : Plan) (found : node_of plans i ≡ Some node) where
   abbrev forced : Bool
-  forced = is_forced_at inserted now.time i
+  forced = is_forced inserted now.time i
 
   same_node : can.node ≡ node
   same_node = same_Some can.node node (sym can.found ∙ found)
@@ -60,7 +60,7 @@ module _ (now : Now) (plans : List Plan) (inserted : Bool) (i : Instance) (can :
   pub served_in : (trace : List Step) → IsNowOf now trace → AreServed plans inserted trace (i ∷ []) → forced ≡ true → IsInstanceServed trace node i
   served_in trace is served it =
       subst (λ o. AtNode o (λ n. IsInstanceServed trace n i)) found
-      (served.0 (subst (λ (time : ℕ). is_forced_at inserted time i ≡ true) (sym is.time) it))
+      (served.0 (subst (λ (time : ℕ). is_forced inserted time i ≡ true) (sym is.time) it))
 
   asked_part : (part : Option Plan) (p : Plan) → part ≡ Some p → IfSome part (HasPart node) → HasPart node p
   asked_part None p is asks = absurd (none-some p is)

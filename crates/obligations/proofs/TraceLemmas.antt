@@ -5,7 +5,7 @@ use Rattle.obligations.proofs.Vocabulary.{recursion_from_All, none-some, same_So
 use Rattle.obligations.proofs.Vocabulary.{nodes_of, formula_for, Plan, CausePlan, SuppressPlan, Both, Either, TestOr, Guarded, EventuallyPlan, AlwaysPlan, UntilPlan, NextPlan, AtEach-found}
 use Rattle.obligations.proofs.Vocabulary.{AtEach-from_nodes, AtEach-nodes, FoundIsFirst, scoped_at, last_time, LastIsAtTheEnd, Begun, LacksNothing, time_now, Gathers, last_position, GuardLooksBack}
 use Rattle.obligations.proofs.Vocabulary.{IsNodeByNumber, StandsIn, After, AtNode, BecomesAt, BegunByRoots, PendingAfter, HasDeadline, IsClean, IsCleanAt, MissingOf, PendsBehind, node_of, Residual}
-use Rattle.obligations.proofs.Vocabulary.{AllHold, PendingIsEnough, CleanGrows, NothingIsPending, PendGrows, LooksAtNow, PlansStand, Instance}
+use Rattle.obligations.proofs.Vocabulary.{AllHold, PendingIsEnough, StepIsEnough, CleanGrows, NothingIsPending, PendGrows, LooksAtNow, PlansStand, Instance}
 use Rattle.std.proofs.Common.{slice_get}
 use Rattle.obligations.proofs.SoundnessLemmas.{all_left, all_right, taken}
 use Rattle.obligations.proofs.LawLemmas.{nothing_missed_is_enough, nothing_missed_is_enough_pending}
@@ -101,6 +101,19 @@ module _ (past : PastDecides) (first : FoundIsFirst) (last : LastIsAtTheEnd) (pl
           instances_met before kept2 behind missing.1 in_time.1 (all_right (Residual plans longer (length front)) kept1 kept2 owed'),
         )
 
+    pub step_met : (before after : List Instance) → IsCleanAt plans front before → PendingAfter plans front before after
+        → Meets (length front) after → Meets (last_position front) before × AllHold longer (last_position front) plans
+    step_met before after clean (kept, begun, goes, begins, are) owed =
+        let now : last_time front ≡ time_now front = last front (last_position front) (omega (arith, some)) in
+        let owed' : Meets (length front) (kept ++ begun) = subst (Meets (length front)) are owed in (
+          instances_met before kept goes (recursion_from_All _ before clean.instances)
+              (subst (λ (t : ℕ). AllByRecursion (λ i. (deadline : ℕ) → HasDeadline plans i deadline → t ≤ deadline) before) now (recursion_from_All _ before clean.in_time))
+              (all_left (Residual plans longer (length front)) kept begun owed'),
+          roots_hold 0 plans begun
+              (λ k plan found. subst (λ (r : ℕ). StandsIn plans r plan) {x = k} {y = 0 + k} (omega arith) (stand k plan found)) (recursion_from_All _ plans clean.roots) begins
+              (all_right (Residual plans longer (length front)) kept begun owed'),
+        )
+
   module _ (clean : IsClean plans trace) where
     clean_at : (n : ℕ) → n < length trace → (before : List Instance) → PendsBehind plans trace n before
         → IsCleanAt plans (take (suc n) trace) before
@@ -111,29 +124,21 @@ module _ (past : PastDecides) (first : FoundIsFirst) (last : LastIsAtTheEnd) (pl
     pub met_behind : (n : ℕ) → n ≤ length trace → (pending : List Instance) → PendsBehind plans trace n pending
         → Meets n pending → (position : ℕ) → position < n → AllHold longer position plans
     met_behind zero le pending pend owed position under = absurd (omega (arith, under))
-    met_behind (suc n) le pending (before, pend, (kept, begun, goes, begins, are)) owed position under =
-        let front : List Step = take (suc n) trace in
-        let within : n < length trace = omega (arith, le) in
+    met_behind (suc n) le pending (before, pend, goes) owed position under =
         let count : length (take (suc n) trace) ≡ suc n = length-take-le (suc n) trace le in
         let splits : take (suc n) trace ++ (drop (suc n) trace ++ more) ≡ trace ++ more =
         sym (append_assoc (take (suc n) trace) (drop (suc n) trace) more) ∙ ap (λ (steps : List Step). steps ++ more) (take-append-drop (suc n) trace) in
-        let some : 0 < length (take (suc n) trace) = omega (arith, count) in
         let at : last_position (take (suc n) trace) ≡ n = omega (arith, count) in
-        let now : last_time (take (suc n) trace) ≡ time_now (take (suc n) trace) = last (take (suc n) trace) (last_position (take (suc n) trace)) (omega (arith, count)) in
-        let c = clean_at n within before pend in
-        let owed' : Meets (length (take (suc n) trace)) (kept ++ begun) = subst (λ (m : ℕ). Meets m (kept ++ begun)) (sym count) (subst (Meets (suc n)) are owed) in
-        let met : Meets n before = subst (λ (m : ℕ). Meets m before) at
-        (instances_met (take (suc n) trace) (drop (suc n) trace ++ more) splits some before kept goes (recursion_from_All _ before c.instances)
-        (subst (λ (t : ℕ). AllByRecursion (λ i. (deadline : ℕ) → HasDeadline plans i deadline → t ≤ deadline) before) now (recursion_from_All _ before c.in_time))
-        (all_left (Residual plans longer (length (take (suc n) trace))) kept begun owed')) in
-        let held : AllHold longer n plans = subst (λ (m : ℕ). AllHold longer m plans) at
-        (roots_hold (take (suc n) trace) (drop (suc n) trace ++ more) splits some 0 plans begun
-        (λ k plan found. subst (λ (r : ℕ). StandsIn plans r plan) {x = k} {y = 0 + k} (omega arith) (stand k plan found)) (recursion_from_All _ plans c.roots) begins
-        (all_right (Residual plans longer (length (take (suc n) trace))) kept begun owed')) in
+        let met = step_met (take (suc n) trace) (drop (suc n) trace ++ more) splits (omega (arith, count)) before pending
+        (clean_at n (omega (arith, le)) before pend) goes (subst (λ (m : ℕ). Meets m pending) (sym count) owed) in
         ⊎_elim
-        (λ (l : position < n). met_behind n (omega (arith, le)) before pend met position l)
-        (λ (g : n ≤ position). subst (λ (m : ℕ). AllHold longer m plans) (omega (arith, under, g)) held)
+        (λ (l : position < n). met_behind n (omega (arith, le)) before pend (subst (λ (m : ℕ). Meets m before) at met.0) position l)
+        (λ (g : n ≤ position). subst (λ (m : ℕ). AllHold longer m plans) {x = last_position (take (suc n) trace)} {y = position} (omega (arith, under, g, at)) met.1)
         (cases_lt position n)
+
+pub step_is_enough : PastDecides → FoundIsFirst → LastIsAtTheEnd → StepIsEnough
+step_is_enough past first last plans trace more before after stand is_trace some clean goes owed =
+    step_met past first last plans stand trace more is_trace trace more refl some before after clean goes owed
 
 pub pending_is_enough : PastDecides → FoundIsFirst → LastIsAtTheEnd → PendingIsEnough
 pending_is_enough past first last plans trace more pending stand is_trace clean pend owed position within =

@@ -72,10 +72,10 @@ pub use Rattle.obligations.specs.machine.MovedPlans.{is_same_name}
 pub use Rattle.obligations.specs.machine.Parts.{AsksPart, AsksPartOrNothing, HasPart, IsAskedPart}
 pub use Rattle.obligations.specs.machine.PlanClasses.{IsPatient, IsPlain, LooksAtNow, PlansStand}
 pub use Rattle.obligations.specs.machine.PresentStep.{IsNowOf, IsSideTaken, TakesSide, TellsNothing, begun_at_now}
-pub use Rattle.obligations.specs.machine.Progress.{AreServed, BegunFor, IsInstanceServed, WillBecome, awaited_in, is_forced_at}
+pub use Rattle.obligations.specs.machine.Progress.{AreServed, BegunFor, IsInstanceServed, WillBecome, awaited_in}
 pub use Rattle.obligations.specs.machine.Residuals.{IsPositionLeft, OwesAt, Residual}
 pub use Rattle.obligations.specs.machine.RightValues.{AreRight, GivesRight, GuardsGiveRight, IsRightLiteral}
-pub use Rattle.obligations.specs.machine.SoundnessLaws.{AllHold, NothingMissedIsEnough, NothingMissedIsEnoughPending, PendingIsEnough}
+pub use Rattle.obligations.specs.machine.SoundnessLaws.{AllHold, NothingMissedIsEnough, NothingMissedIsEnoughPending, PendingIsEnough, StepIsEnough}
 pub use Rattle.obligations.specs.machine.Successors.{ComesOf, ComesOfRoot}
 pub use Rattle.obligations.specs.machine.TraceLaws.{CleanGrows, NothingIsPending, PendCame, PendCanBePending, PendGrows, PendingWasBegun}
 pub use Rattle.obligations.specs.machine.TriggerLaws.{BegunIsNamed, BegunIsReached, MissedIsReached, ReachedIsInside, UnwokenBeginsNothing, UnwokenMissesNothing}
@@ -91,6 +91,7 @@ pub use Rattle.obligations.specs.meaning.Obligations.{LacksSome, LiteralUnless, 
 pub use Rattle.obligations.specs.meaning.Obligations.{begun_now, cause_literal, last_position, literal_of, suppress_literal, time_now}
 pub use Rattle.obligations.specs.meaning.Pending.{After, AtNode, BecomesAt, BeginsInWindow, BegunByRoots, HasDeadline, IsClean, IsCleanAt, IsInWindow, IsNowIn, MissesAt, MissingOf, NoneIsOver}
 pub use Rattle.obligations.specs.meaning.Pending.{PendingAfter, PendsBehind, node_of}
+pub use Rattle.obligations.specs.meaning.PendingBounds.{is_forced}
 pub use Rattle.obligations.specs.meaning.PendingBounds.{CanBePending, IsNext, first_end, second_end}
 pub use Rattle.past_state.specs.declared.guards.PlacedGuard.{PlacedGuard}
 pub use Rattle.past_state.specs.machine.GuardPlaces.{guards_at, placed_guard}

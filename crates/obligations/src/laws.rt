@@ -2,7 +2,7 @@
 ghost use Rattle.obligations.specs.machine.TraceLaws.{PendCanBePending, PendCame, PendingWasBegun, CleanGrows};
 ghost use Rattle.obligations.specs.machine.TraceLaws.{NothingIsPending, PendGrows};
 ghost use Rattle.obligations.specs.machine.SoundnessLaws.{NothingMissedIsEnough, NothingMissedIsEnoughPending};
-ghost use Rattle.obligations.specs.machine.SoundnessLaws.{PendingIsEnough};
+ghost use Rattle.obligations.specs.machine.SoundnessLaws.{PendingIsEnough, StepIsEnough};
 ghost use Rattle.obligations.specs.machine.LossLaws.{SomethingMissedIsLost, DeadlineIsNeeded, MissedIsServed};
 ghost use Rattle.obligations.specs.machine.LossLaws.{MissedIsServedPending, PendingIsEarlier, PendingIsOwed};
 ghost use Rattle.obligations.specs.machine.LossLaws.{SomethingMissedIsLostPending};
@@ -81,10 +81,11 @@ pub fn missed_is_served()
     owed_stays_owed();
 }
 
-/// Where nothing was missed along a trace, it is enough to meet what is pending after it; plans that do not look ahead
-/// leave nothing pending.
+/// Where nothing was missed along a trace, it is enough to meet what is pending after it, and so for what was pending
+/// before a step, where nothing is missed at it; plans that do not look ahead leave nothing pending.
 pub fn pending_is_enough()
     ensures enough { PendingIsEnough }
+    ensures step { StepIsEnough }
     ensures nothing { NothingIsPending }
 {
     laws::dependence();

@@ -6,6 +6,7 @@ ghost use Rattle.plan_terms.specs.machine.StoredPlans.{plan_of};
 ghost use Rattle.obligations.specs.machine.AskablePlans.{CanAskPlan};
 ghost use Rattle.past_state.specs.machine.GuardPlaces.{guards_at};
 ghost use Rattle.obligations.specs.meaning.Pending.{IsInWindow, node_of};
+ghost use Rattle.obligations.specs.meaning.PendingBounds.{is_forced};
 ghost use Rattle.obligations.specs.machine.Parts.{AsksPartOrNothing};
 
 use crate::instances::Instance;
@@ -73,4 +74,11 @@ pub fn is_in_window(instance: &Instance, time: u64) -> bool
     ensures { IsTrue result ↔ IsInWindow instance.now time }
 {
     instance.low <= time && time <= instance.high
+}
+
+// Whether an instance cannot wait any longer: at an inserted step at the end of its window.
+pub fn is_forced(instance: &Instance, time: u64, inserted: bool) -> bool
+    ensures { result ≡ is_forced inserted time instance.now }
+{
+    inserted && time == instance.high
 }

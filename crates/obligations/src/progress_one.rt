@@ -14,11 +14,12 @@ ghost use Rattle.obligations.specs.machine.AskablePlans.{CanAskPlan, CanAskOf, C
 ghost use Rattle.obligations.specs.machine.PresentStep.{IsNowOf};
 ghost use Rattle.past_state.specs.machine.GuardPlaces.{guards_at};
 ghost use Rattle.obligations.specs.meaning.Obligations.{Begun};
-ghost use Rattle.obligations.specs.machine.Progress.{BegunFor, WillBecome, awaited_in, is_forced_at, BecomesOne};
+ghost use Rattle.obligations.specs.machine.Progress.{BegunFor, WillBecome, awaited_in, BecomesOne};
 ghost use Rattle.obligations.specs.declared.instances.Instance.{Instance as AnyInstance};
 ghost use Rattle.obligations.specs.declared.present_step.TheConstants.{MOST_TIME};
 ghost use Rattle.obligations.specs.machine.Successors.{ComesOf, ComesOfRoot};
 ghost use Rattle.obligations.specs.meaning.Pending.{BegunByRoots};
+ghost use Rattle.obligations.specs.meaning.PendingBounds.{is_forced};
 ghost use Rattle.obligations.specs.machine.PlanClasses.{PlansStand};
 
 use crate::begin::begin_behind;
@@ -26,7 +27,7 @@ use crate::empty_guards::is_asleep;
 use crate::instances::Instance;
 use crate::laws::missing_exists;
 use crate::missing_first::misses_nothing;
-use crate::pending_parts::{is_in_window, node_in};
+use crate::pending_parts::{is_forced, is_in_window, node_in};
 use crate::present_step::Now;
 use enf_data::memory::NoMemory;
 use plan_terms::Plan;
@@ -53,7 +54,7 @@ pub fn becoming_of<'a>(
     requires can { CanAskPlan (guards_at now.now.tables.now) (plan_of node.now) instance.now.valuation }
     requires future { is_future (plan_of node.now) ≡ true }
     ensures { IfOk result (λ b. WillBecome now.now (plan_of node.now) instance.now
-        (is_forced_at inserted now.now.time instance.now) b.stays (option_map plan_of (option_copied b.begins))) }
+        (is_forced inserted now.now.time instance.now) b.stays (option_map plan_of (option_copied b.begins))) }
 {
     if is_forced(instance, now.time, inserted) {
         if let Some(part) = awaited(node) {
@@ -64,13 +65,6 @@ pub fn becoming_of<'a>(
         }
     }
     becoming_waiting(alloc, node, instance, now)
-}
-
-// Whether an instance cannot wait any longer: at an inserted step at the end of its window.
-fn is_forced(instance: &Instance, time: u64, inserted: bool) -> bool
-    ensures { result ≡ is_forced_at inserted time instance.now }
-{
-    inserted && time == instance.high
 }
 
 // What an instance of a node with a deadline waits for.

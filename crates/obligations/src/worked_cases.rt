@@ -255,6 +255,15 @@ pub fn clean()
     ensures not_ready_before { IsReady (cause_p 0 ∷ []) (at_5 (event_p ∷ [])) 4 → ⊥ }
 {}
 
+/// Where a trace of two steps is clean, of which the first left something pending that is due by time 11: p() at the next
+/// position, and p() within ten units.
+pub fn clean_with_pending()
+    ensures next_met { IsClean (next_p 0 ∷ []) (then_at 2 (event_p ∷ [])) }
+    ensures next_missed { IsClean (next_p 0 ∷ []) (then_at 2 []) → ⊥ }
+    ensures waits_at_the_deadline { IsClean (soon_p 0 0 ∷ []) (then_at 11 []) }
+    ensures waits_past_the_deadline { IsClean (soon_p 0 0 ∷ []) (then_at 12 []) → ⊥ }
+{}
+
 /// Actions at the first step, for the roots of rules.
 pub fn justified_at_once()
     ensures absent { IsRightAtOnce [] (at_once_for kind.Cause event_p 0 0) }

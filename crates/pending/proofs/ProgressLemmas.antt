@@ -3,7 +3,7 @@ use Rattle.pending.proofs.Vocabulary.{◌≡◌, ℕ, suc, ◌+◌, ◌-◌, ◌
 use Rattle.pending.proofs.Vocabulary.{map, Option, AllByRecursion, append-nil, AllByRecursion-append, AllByRecursion-contains, AllByRecursion-weaker, Contains-append, first_or_later, here, later}
 use Rattle.pending.proofs.Vocabulary.{none_in_nil, Step, Plan, has_deadline, IsAllBut, IsAsleep, entry_places, Place, WasMade, places_from, beginning_at, HasNone, CanPutIn, OutcomeGoesOn, IsInOrder}
 use Rattle.pending.proofs.Vocabulary.{IsOneOr, IsStep, EntryOutcome, PutsInEntries, begun_entries, entries_behind, StepsCanPutIn, StepsGoInOrder, Entry, Beginning, IsNowOf, guards_at, time_now}
-use Rattle.pending.proofs.Vocabulary.{Gathers, AreServed, is_forced_at, ComesOf, NowLeads, AfterExists, After, AtNode, PendingAfter, node_of, IsBegunUnder, CanAskOf, HasPart, Instance, Now}
+use Rattle.pending.proofs.Vocabulary.{Gathers, AreServed, is_forced, ComesOf, NowLeads, AfterExists, After, AtNode, PendingAfter, node_of, IsBegunUnder, CanAskOf, HasPart, Instance, Now}
 use Rattle.pending.proofs.Vocabulary.{EntryBecomes, CarriesPending, WalksEntries, ArePendingEntries, FitsStep, entries_from, items_of, IsPendingListOf, EarlyStay, IsWaitOf, Listed, PendingList}
 use Rattle.pending.proofs.Vocabulary.{SleepersStay, Wait, all_listed, listed_of, step_moment}
 use Rattle.pending.proofs.EntryLemmas.{entries_items, entries_places, filed_waits, items_append}
@@ -207,7 +207,7 @@ module _ (now : Now) (plans : List Plan) (inserted : Bool) (n : ℕ) (all left m
     waits_on e good asleep =
         let can = good.1 in
         let before = before_last plans (listed_of e).wait e.item (step_moment inserted now.time) good.0 asleep.in_time in
-        subst (λ (o : Option Plan). AtNode o (λ node. ((e.item ≡ e.item) × (has_deadline node ≡ true → is_forced_at inserted now.time e.item ≡ false))
+        subst (λ (o : Option Plan). AtNode o (λ node. ((e.item ≡ e.item) × (has_deadline node ≡ true → is_forced inserted now.time e.item ≡ false))
         ⊎ ((part : Plan) × HasPart node part × IsBegunUnder now.ordered.now now.time now.position e.item.rule part e.item))) (sym can.found)
         (inl (refl, λ due. not_forced inserted now.time e.item.high before))
 

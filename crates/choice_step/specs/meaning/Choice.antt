@@ -3,13 +3,14 @@ use Rattle.enf_data.specs.declared.events.Event.{Event}
 use Rattle.enf_data.specs.declared.steps.Step.{Step}
 use Rattle.enf_data.specs.meaning.Valuations.{no_values}
 use Rattle.std.specs.List.{AllByRecursion}
-use Rattle.std.specs.Prelude.{ℕ, suc, List, [], ◌∷◌, ◌++◌, map, ◌==◌, ◌&&◌, Bool, ◌≡◌, ◌⊎◌}
+use Rattle.std.specs.Prelude.{ℕ, suc, List, [], ◌∷◌, ◌++◌, map, Bool, ◌≡◌, ◌⊎◌}
 use Rattle.plan_terms.specs.meaning.Plans.{Plan}
 use Rattle.obligations.specs.declared.actions.Action.{Action}
 use Rattle.obligations.specs.declared.instances.Instance.{Instance}
 use Rattle.obligations.specs.declared.literals.Literal.{Literal}
 use Rattle.obligations.specs.meaning.Obligations.{time_now, Missing, last_position}
 use Rattle.obligations.specs.meaning.Pending.{MissingOf}
+use Rattle.obligations.specs.meaning.PendingBounds.{is_forced}
 use Rattle.choice_step.specs.meaning.ActedSteps.{Applies}
 
 -- who is asked at a step: a pending instance, or the root of a rule
@@ -25,10 +26,6 @@ roots_from rule (plan ∷ plans) = Root rule plan ∷ roots_from (suc rule) plan
 -- the order in which candidates are asked: what is pending in its order, and then the roots of the rules
 abbrev pub all_asked : List Plan → List Instance → List Candidate
 all_asked plans pending = map Waiting pending ++ roots_from 0 plans
-
--- at an inserted step at the end of its window an instance is forced
-abbrev pub is_forced : (inserted : Bool) → (time : ℕ) → Instance → Bool
-is_forced inserted time i = inserted && (time == i.high)
 
 -- what a candidate misses at the last position of a trace
 abbrev pub CandidateMisses : List Plan → (inserted : Bool) → List Step → Candidate → List Literal → Type 0

@@ -175,13 +175,12 @@ GivesPiece gives bytes result held held' before after = KeepsPiece bytes result 
     ⊎ (SendsPiece gives bytes result held held' before after
     ⊎ ((why : IoRefusal) × (result ≡ Err why) × HandsOn {T = Unit {0}} gives (Err why) held held' before after))
 
--- a file that one call opened is asked by one call more; where it was not opened, that is the answer
-abbrev pub AsksFile : {F T : Type 0} → (F → Result T Error → F → Type 0) → Result F Error
-    → Result T Error → Type 0
-AsksFile {F = F} asks (Ok file) answer = (after : F) × asks file answer after
+-- a file that one call opened is asked by one call more, which takes it; where it was not opened, that is the answer
+abbrev pub AsksFile : {F T : Type 0} → (F → Result T Error → Type 0) → Result F Error → Result T Error → Type 0
+AsksFile asks (Ok file) answer = asks file answer
 AsksFile asks (Err error) answer = answer ≡ Err error
 
-pub record AsksOpened {F T : Type 0} (opens : Result F Error → Type 0) (asks : F → Result T Error → F → Type 0)
+pub record AsksOpened {F T : Type 0} (opens : Result F Error → Type 0) (asks : F → Result T Error → Type 0)
     (answer : Result T Error) : Type 0 where
   pub opened : Result F Error
   pub called : opens opened

@@ -1,7 +1,7 @@
 -- What an enforcer does where a call is taken: for a record, and in a drain.
 use Rattle.std.specs.Prelude.{◌≡◌, false, ◌+◌, ◌-◌, ◌≤◌, [], ◌∷◌, length}
 use Rattle.obligations.specs.declared.present_step.TheConstants.{MOST_TIME}
-use Rattle.trace_meaning.specs.meaning.Traces.{Record, time_of}
+use Rattle.trace_meaning.specs.meaning.Traces.{Record, recorded, time_of}
 use Rattle.enforcer_core.specs.declared.steps.StepOut.{StepOut}
 use Rattle.enforcer_core.specs.machine.Answers.{EnforcerGoesOn, IsCallInTime, clock_drained}
 use Rattle.enforcer_core.specs.machine.Enforcers.{Enforcing, enforcer_plans}
@@ -32,7 +32,9 @@ pub record EnforcerDrains (before : Enforcing) (made : StepOut) (after : Enforci
   pub served : after.pending.deadlines ≡ []
   pub satisfied : SatisfiesBehind before (acted_steps made.steps)
 
--- the steps that are emitted for a record are few: at most one for each unit of time that the clock rises, and one more
+-- the steps that are emitted for a record are few: at most one for each unit of time that the clock rises, and that of
+-- the record, where it is no tick
 abbrev pub TakesAreFew : Type 0
 TakesAreFew = (before : Enforcing) (next : Record) (made : StepOut) (after : Enforcing)
-    → EnforcerTakes before next made after → length made.steps ≤ 1 + (time_of next - before.clock)
+    → EnforcerTakes before next made after
+    → length made.steps ≤ length (recorded (next ∷ [])) + (time_of next - before.clock)

@@ -30,10 +30,10 @@ PendingIsOwed = (plans : List Plan) (trace : List Step) (clock : ℕ) (pending :
     → Contains pending i → node_of plans i ≡ Some node
     → IsOwed plans trace clock i.rule node i.valuation i.origin
 
--- what is pending after a trace was begun before its last position
+-- what is pending after a trace was begun at one of its positions
 abbrev pub PendingIsEarlier : Type 0
 PendingIsEarlier = (plans : List Plan) (trace : List Step) (pending : List Instance) (i : Instance) (node : Plan)
-    → PlansStand plans → IsTrace trace → IsClean plans trace → Pend plans trace pending → Contains pending i
+    → PlansStand plans → IsTrace trace → Pend plans trace pending → Contains pending i
     → node_of plans i ≡ Some node → i.origin < length trace
 
 -- a step that is inserted at a deadline of what is pending is needed
@@ -46,12 +46,11 @@ DeadlineIsNeeded = (plans : List Plan) (trace : List Step) (pending : List Insta
 abbrev pub time_behind : (forced : Bool) → (time : ℕ) → ℕ
 time_behind forced time = cond forced (time + 1) time
 
--- where an instance that was pending after a clean trace misses something at a step more, its node is lost from there
--- on
+-- where an instance that was pending after a trace misses something at a step more, its node is lost from there on
 abbrev pub SomethingMissedIsLostPending : Type 0
 SomethingMissedIsLostPending = (plans : List Plan) (trace : List Step) (step : Step) (pending : List Instance)
     (i : Instance) (node : Plan) (forced : Bool) (first : Literal) (rest : List Literal) → PlansStand plans
-    → IsTrace (trace ++ step ∷ []) → IsClean plans trace → Pend plans trace pending → Contains pending i
+    → IsTrace (trace ++ step ∷ []) → Pend plans trace pending → Contains pending i
     → node_of plans i ≡ Some node → (forced ≡ true → step.time ≡ i.high)
     → MissingOf plans (trace ++ step ∷ []) i forced (first ∷ rest)
     → IsLost (trace ++ step ∷ []) (time_behind forced step.time) node i.valuation i.origin
@@ -63,11 +62,11 @@ MissedIsServed = (plans : List Plan) (rule : ℕ) (trace : List Step) (clock : �
     → Missing trace plan v literals → Contains literals literal
     → ServesLiteral trace clock (obligation plan v (last_position trace)) literal
 
--- what was pending after a clean trace leads to what it misses at a step more, where no deadline is over
+-- what was pending after a trace leads to what it misses at a step more, where no deadline is over
 abbrev pub MissedIsServedPending : Type 0
 MissedIsServedPending = (plans : List Plan) (trace : List Step) (step : Step) (clock : ℕ) (pending : List Instance)
     (i : Instance) (node : Plan) (forced : Bool) (literals : List Literal) (literal : Literal) → PlansStand plans
-    → IsTrace (trace ++ step ∷ []) → IsClean plans trace → Pend plans trace pending
+    → IsTrace (trace ++ step ∷ []) → Pend plans trace pending
     → NoneIsOver plans pending step.time
     → Contains pending i → node_of plans i ≡ Some node → EndsInTime node
     → (forced ≡ true → step.time ≡ i.high)

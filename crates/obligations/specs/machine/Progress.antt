@@ -1,7 +1,7 @@
 -- What a pending instance becomes at a step, where it is served if it is forced.
 use Rattle.enf_data.specs.declared.steps.Step.{Step}
 use Rattle.std.specs.List.{AllByRecursion}
-use Rattle.std.specs.Prelude.{◌≡◌, List, [], Option, None, Some, ℕ, ◌==◌, ◌&&◌, Bool, true, false, cond}
+use Rattle.std.specs.Prelude.{◌≡◌, List, [], Option, None, Some, Bool, true, false, cond}
 use Rattle.std.specs.Prelude.{◌∷◌, ◌++◌, IfSome}
 use Rattle.plan_terms.specs.meaning.Plans.{has_deadline, Plan, EventuallyPlan, UntilPlan, NextPlan}
 use Rattle.obligations.specs.declared.instances.Instance.{Instance}
@@ -10,15 +10,12 @@ use Rattle.obligations.specs.machine.Parts.{HasPart, IsAskedPart}
 use Rattle.obligations.specs.machine.PresentStep.{IsNowOf}
 use Rattle.obligations.specs.meaning.Obligations.{Begun, LacksNothing, time_now}
 use Rattle.obligations.specs.meaning.Pending.{IsNowIn, AtNode, node_of, BecomesAt, After}
+use Rattle.obligations.specs.meaning.PendingBounds.{is_forced}
 
 -- what a part of the node of an instance begins for it, where a part is begun
 abbrev pub BegunFor : List Step → Instance → Option Plan → List Instance → Type 0
 BegunFor trace i None begun = begun ≡ []
 BegunFor trace i (Some part) begun = Begun trace i.rule part i.valuation begun
-
--- at an inserted step at the end of its window an instance cannot wait any longer
-abbrev pub is_forced_at : (inserted : Bool) → (time : ℕ) → Instance → Bool
-is_forced_at inserted time i = inserted && (time == i.high)
 
 -- what a node with a deadline waits for
 abbrev pub awaited_in : Plan → Option Plan
@@ -37,7 +34,7 @@ IsInstanceServed trace plan i = Unit {0}
 
 -- each of the instances that are forced is served
 abbrev pub AreServed : List Plan → (inserted : Bool) → List Step → List Instance → Type 0
-AreServed plans inserted trace = AllByRecursion (λ i. is_forced_at inserted (time_now trace) i ≡ true
+AreServed plans inserted trace = AllByRecursion (λ i. is_forced inserted (time_now trace) i ≡ true
     → AtNode (node_of plans i) (λ node. IsInstanceServed trace node i))
 
 -- an instance of the node stays, or not, and what this part begins comes after it. One with a deadline that is forced

@@ -11,7 +11,8 @@ use Rattle.obligations.specs.declared.instances.Instance.{Instance}
 use Rattle.obligations.specs.machine.PlanClasses.{PlansStand}
 use Rattle.obligations.specs.machine.Residuals.{Residual}
 use Rattle.obligations.specs.meaning.Obligations.{Begun, time_now, Missing, last_position}
-use Rattle.obligations.specs.meaning.Pending.{After, MissingOf, NoneIsOver, node_of, IsClean, Pend}
+use Rattle.obligations.specs.meaning.Pending.{After, MissingOf, NoneIsOver, node_of, IsClean, IsCleanAt, Pend}
+use Rattle.obligations.specs.meaning.Pending.{PendingAfter}
 
 -- where a plan misses nothing at the last position of a trace, each longer trace whose positions after it meet what is
 -- begun there satisfies the plan's formula at that position
@@ -36,6 +37,16 @@ NothingMissedIsEnoughPending = (plans : List Plan) (node : Plan) (trace more : L
 -- the formula of each plan holds at a position, under no binding
 abbrev pub AllHold : List Step → ℕ → List Plan → Type 0
 AllHold trace position plans = AllByRecursion (λ plan. Sat trace position no_values (formula_for plan)) plans
+
+-- where nothing is missed at the last position of a trace, and no deadline of what was pending before it is over, each
+-- longer trace that meets after it what is pending meets from this position on what was pending, and satisfies all plans
+-- there
+abbrev pub StepIsEnough : Type 0
+StepIsEnough = (plans : List Plan) (trace more : List Step) (before after : List Instance) → PlansStand plans
+    → IsTrace (trace ++ more) → 0 < length trace → IsCleanAt plans trace before → PendingAfter plans trace before after
+    → AllByRecursion (Residual plans (trace ++ more) (length trace)) after
+    → AllByRecursion (Residual plans (trace ++ more) (last_position trace)) before
+    × AllHold (trace ++ more) (last_position trace) plans
 
 -- where a trace is clean, a longer one that meets after it what is pending satisfies all plans at each position of the
 -- shorter one

@@ -5,16 +5,16 @@ use Rattle.plan_terms.specs.meaning.Plans.{has_deadline, Plan}
 use Rattle.obligations.specs.declared.instances.Instance.{Instance}
 use Rattle.obligations.specs.declared.present_step.Now.{Now}
 use Rattle.obligations.specs.machine.Parts.{HasPart}
-use Rattle.obligations.specs.machine.Progress.{is_forced_at}
 use Rattle.obligations.specs.machine.TriggeredNodes.{IsBegunUnder}
 use Rattle.obligations.specs.meaning.Pending.{AtNode, node_of}
+use Rattle.obligations.specs.meaning.PendingBounds.{is_forced}
 
 -- at a step at a time and a position, with these events: the instance is the one that waits, or is begun for it,
 -- whatever the guards say
 abbrev pub ComesAt : List Event → (time position : ℕ) → List Plan → (inserted : Bool)
     → Instance → Instance → Type 0
 ComesAt events time position plans inserted i j = AtNode (node_of plans i) (λ node.
-    ((i ≡ j) × (has_deadline node ≡ true → is_forced_at inserted time i ≡ false))
+    ((i ≡ j) × (has_deadline node ≡ true → is_forced inserted time i ≡ false))
     ⊎ ((part : Plan) × HasPart node part × IsBegunUnder events time position i.rule part j))
 
 -- the root of a rule begins the instance at the step, whatever the guards say

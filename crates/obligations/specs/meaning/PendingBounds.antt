@@ -1,6 +1,6 @@
--- Which instances can be pending at a clock, after so many steps.
+-- Which instances can be pending at a clock, after so many steps, and which cannot wait any longer.
 use Rattle.enf_data.specs.declared.terms.VarId.{VarId}
-use Rattle.std.specs.Prelude.{ℕ, ◌≡◌, ◌+◌, ◌≤◌, true, ◌-◌, ◌<◌, List, Some}
+use Rattle.std.specs.Prelude.{ℕ, ◌≡◌, ◌+◌, ◌≤◌, true, ◌-◌, ◌<◌, List, Some, Bool, ◌==◌, ◌&&◌}
 use Rattle.plan_terms.specs.meaning.Plans.{has_deadline, window_end, Plan, EventuallyPlan, AlwaysPlan, UntilPlan}
 use Rattle.plan_terms.specs.meaning.Plans.{NextPlan}
 use Rattle.plan_terms.specs.meaning.Scopes.{FitsScope, future_in}
@@ -44,3 +44,7 @@ pub record CanBePending (plans : List Plan) (clock position : ℕ) (i : Instance
   pub named : future_in plans i.rule i.node ≡ Some (node, scope)
   pub binds : FitsScope scope i.valuation
   pub waits : CanWait node clock position i
+
+-- at an inserted step at the end of its window an instance is forced: it cannot wait any longer
+abbrev pub is_forced : (inserted : Bool) → (time : ℕ) → Instance → Bool
+is_forced inserted time instance = inserted && (time == instance.high)

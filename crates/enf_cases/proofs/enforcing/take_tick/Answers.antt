@@ -1,4 +1,4 @@
-use Rattle.std.proofs.Common.{arith, length}
+use Rattle.std.proofs.Common.{◌+◌, ◌-◌, ◌≤◌, arith, length}
 use Rattle.trace_meaning.specs.meaning.Traces.{Tick}
 use Rattle.enforcer_core.specs.machine.MadeSteps.{acted_steps}
 use Rattle.enf_cases.proofs.EnforcingLemmas.{stays_standing}
@@ -7,7 +7,8 @@ use Rattle.enf_cases.proofs.enforcing.take_tick.Goals as goal
 pub returns-in-Ok-clause-further : goal.returns-in-Ok-clause-further
 returns-in-Ok-clause-further c =
     let t = c.in-Ok.ensures.takes in
-    let few = c.takes_are_few.ensures c.args.enforcer.now (Tick c.args.time) c.in-Ok.made c.tick.new.self t in
+    let few : length c.in-Ok.made.steps ≤ 0 + (c.args.time - c.args.enforcer.now.clock) =
+    c.takes_are_few.ensures c.args.enforcer.now (Tick c.args.time) c.in-Ok.made c.tick.new.self t in
     record {
       steps = omega (arith, few, t.goes_on.position, t.goes_on.clock_is, t.in_time.not_over);
       in_time = omega (arith, t.goes_on.clock_is, c.if-time-gt-MOST_TIME.false);
