@@ -13,6 +13,7 @@ other changes than its log wants.
 import atexit
 import collections
 import contextlib
+import fcntl
 import functools
 import os
 import re
@@ -21,6 +22,7 @@ import signal
 import subprocess
 import sys
 import tempfile
+import termios
 import time
 
 IN_ALL = 2.3
@@ -160,6 +162,8 @@ class TooLong(Exception):
 
 
 Run = collections.namedtuple('Run', 'peak reads writes report')
+# The greatest resident size of a run up to the end of its input, and in all.
+Sizes = collections.namedtuple('Sizes', 'at_end in_all')
 # One cost where there is no second. The bar is of the second over the first, or of the one.
 Figure = collections.namedtuple('Figure', 'part unit n first second bar')
 
@@ -171,6 +175,18 @@ def told(pid, file, name):
             if line.startswith(name + ':'):
                 return int(line.split()[1])
     return 0
+
+
+def state_of(pid):
+    """The letter by which /proc tells what a process does: S where it waits for something, Z where it has ended."""
+    with open('/proc/%d/stat' % pid) as line:
+        return line.read().rsplit(')', 1)[1].split()[0]
+
+
+def is_at_end(pid, pipe):
+    """Whether a process has read all that was written to a pipe, and waits for more, or has ended."""
+    state = state_of(pid)
+    return state == 'Z' or (state == 'S' and fcntl.ioctl(pipe, termios.FIONREAD, bytes(4)) == bytes(4))
 
 
 class Row:
@@ -196,15 +212,16 @@ class Row:
     def read(self, name):
         return read(self.path(name))
 
-    def run(self, log, word='enforce', more=(), before=()):
-        """A run on a log. Its greatest resident size is looked for while it runs: what the system tells afterwards is
-        at least that of this script."""
-        self.write('log', log)
+    def begin(self, given, word='enforce', more=(), before=()):
+        """A process that reads what is given, and the time at which it is ended."""
         command = [*before, ENF, word, self.path('signature'), self.path('policy'), *more]
-        with open(self.path('log')) as given, open(self.path('output'), 'w') as output, \
-                open(self.path('report'), 'w') as report:
-            process = subprocess.Popen(command, stdin=given, stdout=output, stderr=report)
-        end, peak = time.monotonic() + LIMIT, 0
+        with open(self.path('output'), 'w') as output, open(self.path('report'), 'w') as report:
+            return subprocess.Popen(command, stdin=given, stdout=output, stderr=report), time.monotonic() + LIMIT
+
+    def end(self, process, end):
+        """Waits for the end of a process, and says what it took. Its greatest resident size is looked for while it runs:
+        what the system tells afterwards is at least that of this script."""
+        peak = 0
         while os.waitid(os.P_PID, process.pid, os.WEXITED | os.WNOWAIT | os.WNOHANG) is None:
             peak = max(peak, told(process.pid, 'status', 'VmHWM'))
             if time.monotonic() > end:
@@ -217,6 +234,26 @@ class Row:
         if status != 0:
             raise Failed('status %d: %s' % (status, self.read('report').strip().split('\n')[-1]))
         return Run(peak * 1024, *calls, self.read('report'))
+
+    def run(self, log, word='enforce', more=(), before=()):
+        """A run on a log."""
+        self.write('log', log)
+        with open(self.path('log')) as given:
+            return self.end(*self.begin(given, word, more, before))
+
+    def sizes(self, log):
+        """The sizes of a run on a log that comes through a pipe, which is closed when all is read and done."""
+        process, end = self.begin(subprocess.PIPE)
+        at_end = 0
+        with contextlib.suppress(BrokenPipeError), process.stdin as pipe:
+            pipe.writelines(line.encode() for line in log)
+            pipe.flush()
+            while not is_at_end(process.pid, pipe):
+                if time.monotonic() > end:
+                    process.kill()
+                time.sleep(0.005)
+            at_end = told(process.pid, 'status', 'VmHWM') * 1024
+        return Sizes(at_end, self.end(process, end).peak)
 
     def cost(self, log, changes=None, word='enforce', more=()):
         """The instructions of a run that makes so many changes."""
@@ -293,6 +330,14 @@ def memory_of_one(base, unit, bar, count=1):
     def figures(row, n):
         yield Figure('', 'bytes ' + unit, n, row.run(base(n)).peak / (n * count), None, bar)
     return figures
+
+
+def memory_of_duties(row, n):
+    """The greatest resident size by the duties that n steps leave open: before the end of the log, and when all that is
+    owed at the end is made before it is written."""
+    sizes = row.sizes(of_long_ids(n))
+    yield Figure('', 'bytes a duty', n, sizes.at_end / n, None, 620)
+    yield Figure('.drained', 'bytes a duty', n, sizes.in_all / n, None, 850)
 
 
 def rows_of_an_hour(row, n):
@@ -409,8 +454,7 @@ WOKEN = [
          {'alarm': ('alarm()', 0), 'ended': ('alarm() delete(U)', 0)}),
     duty('narrow-always', 'forall u. request(u) -> always[0,1000000] forall x. visit(x) -> not share(u,x)', 'request(U)',
          {'visit': ('visit(V)', 0), 'shared': ('visit(V) share(U,V)', 1)}),
-    Row('duty-memory', rules('forall u. request(u) -> eventually[0,1000000] delete(u)'),
-        memory_of_one(of_long_ids, 'a duty', 620), n=600000),
+    Row('duty-memory', rules('forall u. request(u) -> eventually[0,1000000] delete(u)'), memory_of_duties, n=600000),
     Row('state', rules(CONSENT, 'forall u. request(u) -> always[0,1000000] not use(u)'), lines_of_states, n=100000),
     Row('writes-none', '', writes(generated), n=20000, signature=GENERATED),
     Row('writes-one', read('tests/generated/generated.policy'), writes(generated), n=20000, signature=GENERATED),

@@ -1,33 +1,12 @@
 -- The first of some that are asked at a step, and the action for it.
-use Rattle.choice_step.proofs.Vocabulary.{◌≡◌, ℕ, zero, suc, ◌+◌, ◌<◌, ◌≤◌, Bool, List, [], ◌∷◌, ◌++◌, Option, None, Some, length, map, Contains, drop, get_or, take, refl, sym, subst, ap, ◌∙◌, ⊎_elim}
-use Rattle.choice_step.proofs.Vocabulary.{inl, inr, arith, IfSome, slice_get, Bor, get-empty, AllByRecursion, find, flat_map, remove, Contains-append_left, Contains-append_right, cases_lt, none-some}
-use Rattle.choice_step.proofs.Vocabulary.{same_Some, AllByRecursion-append, AllByRecursion-find, AllByRecursion-from_contains, Contains-append, first_or_later, here, later, none_in_nil}
+use Rattle.choice_step.proofs.Vocabulary.{◌≡◌, ℕ, zero, suc, ◌+◌, ◌<◌, ◌≤◌, Bool, List, [], ◌∷◌, ◌++◌, Option, None, Some, length, map, Contains, take, refl, sym, subst, ap, ◌∙◌, ⊎_elim}
+use Rattle.choice_step.proofs.Vocabulary.{inl, inr, arith, IfSome, slice_get, get-empty, AllByRecursion, find, flat_map, remove, Contains-append_left, Contains-append_right, cases_lt, none-some}
+use Rattle.choice_step.proofs.Vocabulary.{same_Some, AllByRecursion-append, AllByRecursion-find, AllByRecursion-from_contains, Contains-append, first_or_later, later, none_in_nil}
 use Rattle.choice_step.proofs.Vocabulary.{there_from_get, Valuation, no_values, variable_cmp, Step, Value, Contains-flat_map, has_number, nodes, nodes_of, Plan, CausePlan, SuppressPlan, Both, Either}
 use Rattle.choice_step.proofs.Vocabulary.{TestOr, Guarded, EventuallyPlan, AlwaysPlan, UntilPlan, NextPlan, IsBound, IsKnownAt, IsWanted, IsWantedOf, IsNowOf, time_now, Missing, node_of, FirstMissing}
-use Rattle.choice_step.proofs.Vocabulary.{FirstMissingOf, FirstOf, Action, Instance, Literal, Now, shown, Candidate, IsFirstMissing, CandidateMisses, MissesNothing, Root, Waiting, action_at}
-use Rattle.choice_step.proofs.Vocabulary.{action_at_root, action_for, is_forced, roots_from, CoversMet, IsActionFor, action_by, first_literal, rule_by, IsKnownFor, IsLiteralAt, IsWantedAt, Asked}
+use Rattle.choice_step.proofs.Vocabulary.{FirstMissingOf, FirstOf, Action, Instance, Literal, Now, Candidate, IsFirstMissing, CandidateMisses, MissesNothing, Root, Waiting, action_at}
+use Rattle.choice_step.proofs.Vocabulary.{action_for, is_forced, roots_from, IsActionFor, IsKnownFor, IsLiteralAt, IsWantedAt}
 use Rattle.std.specs.Prelude.{slice_index_or}
-use Rattle.choice_step.specs.declared.first_missing.Asked.TheVariants as who
-
--- where something else holds of those of which it held
-pub covers_again : {X : Type 0} (P Q : X → Type 0) (all others : List X) → CoversMet P all others → ((x : X) → Contains all x → P x → Q x)
-    → CoversMet Q all others
-covers_again P Q [] others covers then = covers
-covers_again P Q (y ∷ all) others covers then =
-    ⊎_elim (λ c. inl (c.0, c.1, covers_again P Q all c.0 c.2 (λ x there. then x (later x y all there))))
-    (λ c. inr (then y (here y all) c.0, covers_again P Q all others c.1 (λ x there. then x (later x y all there)))) covers
-
-pub drop_end : {X : Type 0} (xs : List X) (k : ℕ) → length xs ≤ k → drop k xs ≡ []
-drop_end [] zero within = refl
-drop_end [] (suc k) within = refl
-drop_end (x ∷ xs) zero within = absurd (omega (arith, within))
-drop_end (x ∷ xs) (suc k) within = drop_end xs k (omega (arith, within))
-
--- the instance after a reference at a place
-pub shown_at : (xs : List (Bor Instance)) (k : ℕ) (r : Bor Instance) → r ≡ get_or xs k r → r.now ≡ get_or (shown xs) k r.now
-shown_at [] k r is = refl
-shown_at (x ∷ xs) zero r is = ap (λ (b : Bor Instance). b.now) is
-shown_at (x ∷ xs) (suc k) r is = shown_at xs k r is
 
 module _ (plans : List Plan) (inserted : Bool) (trace : List Step) where
   abbrev pub MissesFirst : Candidate → Literal → Type 0
@@ -35,38 +14,6 @@ module _ (plans : List Plan) (inserted : Bool) (trace : List Step) where
 
   abbrev pub Met : Instance → Type 0
   Met i = MissesNothing plans inserted trace (Waiting i)
-
-  -- the first of the others that misses something is the first of all
-  pub covers_first : (all others : List Instance) (x : Instance) (literal : Literal) → CoversMet Met all (x ∷ others)
-      → MissesFirst (Waiting x) literal → IsFirstMissing plans inserted trace (map Waiting all) (Waiting x) literal
-  covers_first [] others x literal covers misses = absurd (omega (arith, ap length covers))
-  covers_first (y ∷ all) others x literal covers misses =
-      ⊎_elim
-      (λ c.
-      let same : x ≡ y = ap (λ (l : List Instance). get_or l 0 x) c.1 in
-      inl (ap Waiting (sym same), misses.0, subst (λ z. CandidateMisses plans inserted trace (Waiting z) (literal ∷ misses.0)) same misses.1))
-      (λ c. inr (c.0, covers_first all others x literal c.1 misses)) covers
-
-  pub covers_none : (all others : List Instance) → others ≡ [] → CoversMet Met all others
-      → AllByRecursion (MissesNothing plans inserted trace) (map Waiting all)
-  covers_none [] others none covers = tt
-  covers_none (y ∷ all) others none covers =
-      ⊎_elim (λ c. absurd (omega (arith, ap length (sym none ∙ c.1)))) (λ c. (c.0, covers_none all others none c.1)) covers
-
-  -- one of the others misses nothing
-  pub covers_on : (all others : List Instance) (x : Instance) → CoversMet Met all (x ∷ others) → Met x → CoversMet Met all others
-  covers_on [] others x covers met = absurd (omega (arith, ap length covers))
-  covers_on (y ∷ all) others x covers met =
-      ⊎_elim
-      (λ c.
-      let same : x ≡ y = ap (λ (l : List Instance). get_or l 0 x) c.1 in
-      let rest : others ≡ c.0 = ap (λ (l : List Instance). drop 1 l) c.1 in
-      inr (subst Met same met, subst (CoversMet Met all) (sym rest) c.2))
-      (λ c. inr (c.0, covers_on all others x c.1 met)) covers
-
-  pub covers_all : (all : List Instance) → AllByRecursion (MissesNothing plans inserted trace) (map Waiting all) → CoversMet Met all []
-  covers_all [] none = refl
-  covers_all (y ∷ all) none = inr (none.0, covers_all all none.1)
 
   pub waiting_met : (xs : List Instance) (x : Instance) → AllByRecursion (MissesNothing plans inserted trace) (map Waiting xs) → Contains xs x → Met x
   waiting_met [] x none there = absurd (none_in_nil x there)
@@ -354,32 +301,15 @@ pub if_some : {X : Type 0} (o : Option X) (P Q : X → Type 0) → ((x : X) → 
 if_some None P Q turn is = tt
 if_some (Some x) P Q turn is = turn x is
 
--- ---- the first of some literals
-
 pub above : (n : ℕ) → (n ≡ 0 → ⊥) → 0 < n
 above n some = ⊎_elim (λ lt. lt) (λ le. absurd (some (omega (arith, le)))) (cases_lt 0 n)
 
-pub none_first : (literals : List Literal) → length literals ≡ 0 → slice_get literals 0 ≡ None
-none_first [] none = refl
-none_first (l ∷ ls) none = absurd (omega (arith, none))
+pub nil_of : {X : Type 0} (xs : List X) → length xs ≡ 0 → xs ≡ []
+nil_of [] none = refl
+nil_of (x ∷ xs) none = absurd (omega (arith, none))
 
-pub some_first : (literals : List Literal) → (length literals ≡ 0 → ⊥) → slice_get literals 0 ≡ Some (first_literal literals)
-some_first [] some = absurd (some refl)
-some_first (l ∷ ls) some = refl
-
--- what was taken out first, and the rest
-pub first_is : (literals : List Literal) (literal : Literal) → 0 < length literals → literal ≡ slice_index_or literals 0 literal
-    → literal ≡ first_literal literals
-first_is [] literal some is = absurd (omega (arith, some))
-first_is (l ∷ ls) literal some is = is
-
-pub rest_is : (literals : List Literal) → 0 < length literals → literals ≡ first_literal literals ∷ remove literals 0
-rest_is [] some = absurd (omega (arith, some))
-rest_is (l ∷ ls) some = refl
-
--- where a root was asked, the action is that of its rule
-pub by_root : (time position : ℕ) (asked : Asked) (rule : ℕ) (plain : Bool) (literal : Literal) → asked ≡ who.Root rule plain
-    → action_by time position asked literal ≡ action_at_root time position (rule_by asked) literal
-by_root time position asked rule plain literal is =
-    subst (λ (a : Asked). action_by time position a literal ≡ action_at_root time position (rule_by a) literal)
-    (sym is) refl
+-- the first that was taken out, and the rest
+pub split_first : (literals : List Literal) (first : Literal) (rest : List Literal) → 0 < length literals → first ≡ slice_index_or literals 0 first
+    → rest ≡ remove literals 0 → literals ≡ first ∷ rest
+split_first [] first rest some is behind = absurd (omega (arith, some))
+split_first (l ∷ ls) first rest some is behind = λ i. sym is i ∷ sym behind i

@@ -15,7 +15,7 @@ use Rattle.pending.proofs.MomentLemmas.{before_last, not_begun, not_forced, not_
 use Rattle.pending.proofs.WakePatternLemmas.{not_over}
 use Rattle.pending.specs.machine.Laws.{EarlyStay, SleepersStay}
 use Rattle.plan_terms.specs.meaning.Plans.{has_deadline}
-use Rattle.choice_step.proofs.RoundLemmas.{sleeper_met}
+use Rattle.choice_step.proofs.SleeperLemmas.{sleeper_met}
 use Rattle.choice_step.proofs.UniquenessLemmas.{last_step}
 use Rattle.choice_step.proofs.RuleTriggerLemmas.{none_met}
 

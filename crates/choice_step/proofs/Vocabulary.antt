@@ -18,28 +18,23 @@ pub use Rattle.std.specs.List.Sorted.{IsPartitionPoint, IsPartitionedBy}
 pub use Rattle.std.specs.Option.{option_copied, option_map, option_or}
 pub use Rattle.std.specs.Ordering.{eq_by_cmp, is_le, is_lt, nat_cmp}
 pub use Rattle.std.specs.Prelude.{IfNone, IfSome, is_some, slice_get}
-pub use Rattle.choice_step.specs.declared.first_missing.Asked.{Asked}
-pub use Rattle.choice_step.specs.declared.first_missing.Found.{Found}
-pub use Rattle.choice_step.specs.declared.first_missing.Place.{Place}
 pub use Rattle.choice_step.specs.declared.situation.Situation.{Situation}
 pub use Rattle.choice_step.specs.declared.woken_rules.Woken.{Woken}
-pub use Rattle.choice_step.specs.machine.ActionChains.{Acts, ActsFrom, AreSpared, AreSparedBehind, HasActionRole, HasNoChoices, WillDecide}
+pub use Rattle.choice_step.specs.machine.ActionChains.{Acts, ActsFrom, HasActionRole, WillDecide}
 pub use Rattle.choice_step.specs.machine.AskedLeaves.{AreAskedActions, IsAskedAction, IsAskedLeaf, all_events}
 pub use Rattle.choice_step.specs.machine.Cases.{always_to_10, due_at_5, empty_at_0, event_r, for_due, for_leaf, for_root, for_second_at, is_number, next_due_at_15, p_and_r, p_at_5, p_by_5}
 pub use Rattle.choice_step.specs.machine.Cases.{p_by_5_and_q_by_3, p_is_there, p_of_1_is_there, p_up_to_5, p_where_no_q, p_where_q, p_with_next, q_always, q_at_15, q_at_3, q_at_7, q_by_5, q_is_not}
 pub use Rattle.choice_step.specs.machine.Cases.{q_is_there, r_is_there, second_due_at_3, second_due_at_5, served_at_5}
-pub use Rattle.choice_step.specs.machine.Batches.{AreBatches, CanBatchAt}
-pub use Rattle.choice_step.specs.machine.FirstActions.{IsActionFor, IsPlainFound, WillFind, action_by, action_found, first_literal, literals_by, plain_by, root_literals, rule_by, rule_found}
+pub use Rattle.choice_step.specs.machine.FirstActions.{IsActionFor, WillFind}
 pub use Rattle.choice_step.specs.machine.FittingEvents.{CausesFit, EventsFit, KeepFitting, TraceEventsFit}
 pub use Rattle.choice_step.specs.machine.FittingLaws.{DecidedFits, DrainFits, FollowedFits}
 pub use Rattle.choice_step.specs.machine.JustificationLaws.{DecidedAreJustified, LeastDeadlineIsNeeded, WillBeJustified}
 pub use Rattle.choice_step.specs.machine.Laws.{ActionsAreLawful, AreDistinct, CausesAlone, DecidedIsDistinct, DecidedMissesNothing, DecidesIsOne, DrainIsOne}
 pub use Rattle.choice_step.specs.machine.Laws.{EventsAreActedOnOnce, FollowsIsOne, IsReach, SomeDecision, SomeFollows, SomeInserts}
-pub use Rattle.choice_step.specs.machine.LoopActions.{ActsFor, ActsInTurn, ActsOn, AllCanBeAsked, GoesFrom, IsFoundFrom, ActsOwn, LeavesNothing, StaysMet}
-pub use Rattle.choice_step.specs.machine.MetPlaces.{CoversMet, NothingBefore, RootsAreMet, WillBeMetBefore}
-pub use Rattle.choice_step.specs.machine.RootLiterals.{IsLeftAt, RootMisses, WasFound, WillBeLeft, WillHaveFound}
+pub use Rattle.choice_step.specs.machine.LoopActions.{ActsInTurn, AllCanBeAsked, GoesFrom}
+pub use Rattle.choice_step.specs.machine.StillToAsk.{RootsAreMet}
 pub use Rattle.choice_step.specs.machine.RuleTriggers.{AllSleep, AreAllIn, GainsNoSuppressed, HasNoneOf, IsAway, woken_by, woken_number}
-pub use Rattle.choice_step.specs.machine.Situations.{CanDecideSituation, IsFoundInSituation, IsMetBefore, NoneIsWoken, SituationFinds, SituationLeads, situation_plans}
+pub use Rattle.choice_step.specs.machine.Situations.{CanDecideSituation, SituationFinds, SituationLeads, situation_plans}
 pub use Rattle.choice_step.specs.machine.WantedActions.{AreLiteralsBehind, IsKnownBehind, IsKnownFor, IsLiteralAt, IsLiteralBehind, IsWantedAt, IsWantedFrom}
 pub use Rattle.choice_step.specs.meaning.ActedSteps.{ActedStep, AllAreJustified, Applies, AreJustified, StepIsJustified, change_by, change_of}
 pub use Rattle.choice_step.specs.meaning.Choice.{Candidate, CandidateMisses, Decides, IsFirstMissing, MissesNothing, Root, Waiting, action_at, action_at_root, action_for, all_asked}
@@ -75,8 +70,8 @@ pub use Rattle.enf_formula.specs.meaning.Satisfaction.{Prev, Sat, Since, True, U
 pub use Rattle.monitorable_guard.specs.machine.EventOrder.{shown_events}
 pub use Rattle.monitorable_guard.specs.machine.PresentMeaning.{HoldsNow}
 pub use Rattle.monitorable_guard.specs.machine.ValueSources.{IsArgument, IsFormulaConstant}
+pub use Rattle.obligations.proofs.FreshGuardLemmas.{at_each}
 pub use Rattle.obligations.proofs.ReachWidening.{IsReachedBy-wider}
-pub use Rattle.obligations.proofs.UnreadInstanceLemmas.{node_unmoved}
 pub use Rattle.obligations.proofs.UnreadNameLemmas.{unread_rest, unread_unmoved}
 pub use Rattle.obligations.specs.declared.actions.Action.{Action}
 pub use Rattle.obligations.specs.declared.instances.Instance.{Instance}
@@ -88,7 +83,9 @@ pub use Rattle.obligations.specs.machine.AskablePlans.{CanAskIn, CanAskOf, CanAs
 pub use Rattle.obligations.specs.machine.AskingLaws.{PendCanBeAsked, WellFormedCanBeAsked, WellFormedStand}
 pub use Rattle.obligations.specs.machine.Cases.{each_q, p_of_1, q_of_1}
 pub use Rattle.obligations.specs.machine.ExistenceLaws.{MissingExists, MissingOfExists, PendExists}
-pub use Rattle.obligations.specs.machine.MovedPlans.{CanBatch, IsUnmoved, IsUnmovedIn, LeavesRestIn}
+pub use Rattle.obligations.specs.machine.AskingLaws.{StaleNowStands}
+pub use Rattle.obligations.specs.machine.FreshGuards.{askable, guards_now}
+pub use Rattle.obligations.specs.machine.MovedPlans.{IsUnmovedIn, LeavesRestIn}
 pub use Rattle.obligations.specs.machine.FirstMissing.{FirstMissing, FirstMissingOf, FirstOf}
 pub use Rattle.obligations.specs.machine.Leaves.{ChangesEvents, IsBound, IsLeaf, terms_of}
 pub use Rattle.obligations.specs.machine.LossLaws.{DeadlineIsNeeded, MissedIsServed, MissedIsServedPending, PendingIsEarlier, PendingIsOwed, SomethingMissedIsLost, SomethingMissedIsLostPending}
@@ -113,7 +110,7 @@ pub use Rattle.past_state.specs.declared.guards.PlacedGuard.{PlacedGuard}
 pub use Rattle.past_state.specs.declared.kept_rows.KeptRow.{KeptRow}
 pub use Rattle.past_state.specs.declared.memories.Memory.{Memory}
 pub use Rattle.past_state.specs.declared.operators.OperatorState.{OperatorState}
-pub use Rattle.past_state.specs.machine.GuardPlaces.{guards_at, placed_guard}
+pub use Rattle.past_state.specs.machine.GuardPlaces.{placed_guard}
 pub use Rattle.past_state.specs.machine.Past.{AreTablesAtStep, GuardsWillHold, IsGuard, Past, PastStands, PastTables, formulas_of_guards, guard_formula, guard_names, tables_of}
 pub use Rattle.past_state.specs.machine.StoredRows.{StoresFor}
 pub use Rattle.past_state.specs.machine.ValueSources.{AreKnown, IsConstantOf, IsKeptValue}

@@ -1,33 +1,35 @@
 //! The choice loop: what is added at a step and taken out, so that nothing is missing there.
-ghost use Rattle.std.specs.Prelude.{◌≡◌, ◌<◌, false, IfNone, IfOk, IfSome, IsTrue, None, OnOk, length, map};
-ghost use Rattle.choice_step.specs.machine.Situations.{AreAmong, CanDecideSituation, SituationFinds};
-ghost use Rattle.choice_step.specs.machine.Situations.{IsFoundInSituation, IsMetBefore, SituationLeads, NoneIsWoken};
-ghost use Rattle.choice_step.specs.machine.Situations.{situation_plans};
-ghost use Rattle.choice_step.specs.machine.Batches.{AreBatches};
-ghost use Rattle.choice_step.specs.machine.StepChoices.{CanDecide, IsChoice, step_situation};
-ghost use Rattle.choice_step.specs.machine.FirstActions.{rule_found};
+ghost use Rattle.std.specs.Prelude.{◌≡◌, ◌<◌, ◌≤◌, List, [], false, IfOk, IsTrue, None, OnOk, length, map};
 ghost use Rattle.choice_step.specs.machine.RuleTriggers.{GainsNoSuppressed};
+ghost use Rattle.choice_step.specs.machine.Situations.{CanDecideSituation, SituationFinds, SituationLeads};
+ghost use Rattle.choice_step.specs.machine.Situations.{situation_plans};
+ghost use Rattle.choice_step.specs.machine.StepChoices.{CanDecide, IsChoice, step_situation};
+ghost use Rattle.choice_step.specs.machine.StillToAsk.{AreWanted, IsDecidedAt, IsFirstNext, IsForSome, IsMissedAtRoot};
+ghost use Rattle.choice_step.specs.machine.StillToAsk.{IsNextFor, IsUnasked, IsUnaskedAt};
+ghost use Rattle.choice_step.specs.machine.Turns.{EndsWith, IsForLast, NoneIsWoken};
+ghost use Rattle.enf_data.specs.declared.events.Event.{Event as AnyEvent};
 ghost use Rattle.enf_formula.specs.machine.Agreement.{HaveSameEvents};
-ghost use Rattle.past_state.specs.machine.ValueSources.{AreKnown};
+ghost use Rattle.obligations.specs.machine.FreshGuards.{HaveSameFreshEvents};
 ghost use Rattle.past_state.specs.machine.Past.{AreTablesAtStep, GuardsWillHold, guard_names};
+ghost use Rattle.past_state.specs.machine.ValueSources.{AreKnown};
 ghost use Rattle.plan_terms.specs.machine.StoredPlans.{plan_of};
 ghost use Rattle.plan_terms.specs.machine.WakingNames.{waking_names};
-ghost use Rattle.sleepers.specs.machine.Entries.{shown};
 
 use crate::actions::Actions;
-use crate::apply_actions::act_for;
-use crate::batches::Batches;
-use crate::first_missing::{Found, Place, first_action, plain_rule, rule_of};
+use crate::apply_actions::{act, act_for};
+use crate::changing::Changing;
+use crate::first_missing::{Missed, Next, find};
 use crate::laws::actions_are_justified;
 use crate::rule_triggers::Wakes;
 use crate::situation::Situation;
+use crate::unasked::Unasked;
 use enf_data::event_sets::EventSet;
+use enf_data::events::NameId;
 use enf_data::items::Duplicate;
 use enf_data::memory::NoMemory;
-use enf_formula::laws::dependence;
 use monitorable_guard::StepEvents;
 use obligations::laws::{pending_exists, unwoken_is_idle};
-use obligations::{Instance, Now};
+use obligations::{Now, PresentEvents};
 use past_state::laws::unread_tables_stay;
 use past_state::{PastState, Tables};
 use pending::Pending;
@@ -53,11 +55,11 @@ struct Round {
     ended: bool,
 }
 
-// What the first look of a round shows: who is the first that misses something, the tables of the past, and whether
-// that is the root of a rule without choices after which no rule is woken.
+// What the first look of a round shows: what is to be done, the tables of the past, and whether that is for the root
+// of a rule without choices after which no rule is woken.
 #[derive(Drop)]
-struct Seen<'a> {
-    found: Option<Found<'a>>,
+struct Seen {
+    next: Next,
     tables: Tables,
     last: bool,
 }
@@ -80,18 +82,15 @@ pub fn choose(
         (IsChoice (step_situation plans.now pending.now past.now time position inserted) events) }
 {
     let wakes = Wakes::of(alloc, plans)?;
-    let batches = Batches::of(alloc, plans)?;
     choose_with(
-        alloc, &wakes, &batches, plans, pending, past, time, position, events, inserted,
+        alloc, &wakes, plans, pending, past, time, position, events, inserted,
     )
 }
 
-/// Decides a step with what wakes the rules and what they suppress that can be taken out at once, which is made once for
-/// the plans.
+/// Decides a step with what wakes the rules, which is made once for the plans.
 pub fn choose_with(
     alloc: Global,
     wakes: &Wakes,
-    batches: &Batches,
     plans: &[Plan],
     pending: &Pending,
     past: &PastState,
@@ -101,24 +100,26 @@ pub fn choose_with(
     inserted: bool,
 ) -> Result<Choice, NoMemory>
     requires wakes { wakes.now ≡ map waking_names (map plan_of plans.now) }
-    requires batches { AreBatches (map plan_of plans.now) batches.now }
     requires can { CanDecide (step_situation plans.now pending.now past.now time position inserted) }
     ensures chosen { IfOk result
         (IsChoice (step_situation plans.now pending.now past.now time position inserted) events) }
 {
     actions_are_justified();
+    sleepers_stay();
+    pending_exists();
     // Its clause says that no event stands twice.
     let _given = events.as_slice();
     let situation = Situation {
         plans,
         wakes,
-        batches,
         pending,
         past,
         time,
         position,
         inserted,
     };
+    let asking = pending.asking(alloc, events.as_slice(), time, inserted)?;
+    let mut unasked = Unasked::of(alloc, asking);
     let mut events = events;
     let mut actions = Actions::new(alloc);
     loop {
@@ -126,7 +127,7 @@ pub fn choose_with(
             events: after,
             tables,
             ended,
-        } = go_round(alloc, &situation, events, &mut actions)?;
+        } = go_round(alloc, &situation, events, &mut unasked, &mut actions)?;
         if ended {
             return Ok(Choice {
                 events: after,
@@ -138,287 +139,304 @@ pub fn choose_with(
     }
 }
 
-// A round of the loop, up to an action on a name that a guard looks for: the tables are made once.
+// A round of the loop, with the tables of the past at its events. What a root without choices misses, which a guard looks
+// for or after which no rule is woken, is all that is done in its round.
 fn go_round(
     alloc: Global,
     situation: &Situation<'_>,
     events: EventSet,
+    unasked: &mut Unasked<'_>,
     actions: &mut Actions,
 ) -> Result<Round, NoMemory>
     requires can { CanDecideSituation situation.now }
+    requires kept { IsUnaskedAt situation.now events actions.old unasked.old }
     ensures acts { IfOk result (λ round. SituationLeads situation.now events events actions.old round.events
         actions.new) }
     ensures more { IfOk result (λ round. round.ended ≡ false → length actions.old < length actions.new) }
-    ensures nothing { IfOk result (λ round. IsTrue round.ended → SituationFinds situation.now round.events None) }
-    ensures tables { IfOk result (λ round. IsTrue round.ended
-        → AreTablesAtStep situation.now.past.now situation.now.time round.events round.tables) }
-    ensures hold { IfOk result (λ round. IsTrue round.ended
-        → GuardsWillHold situation.now.past.now situation.now.time round.events round.tables) }
+    ensures kept { IfOk result (λ round. IsUnaskedAt situation.now round.events actions.new unasked.new) }
+    ensures ended { IfOk result (λ round. IsTrue round.ended → EndsWith situation.now round.events round.tables) }
 {
     unread_tables_stay();
-    sleepers_stay();
-    pending_exists();
-    let woken = situation.pending.woken(
-        alloc,
-        events.as_slice(),
-        situation.time,
-        situation.inserted,
-    )?;
-    let waiting = woken.as_slice();
-    let Seen {
-        found,
-        tables,
-        last,
-    } = look(alloc, situation, waiting, &events)?;
-    let Some(found) = found else {
-        return Ok(Round {
+    let Seen { next, tables, last } = look(alloc, situation, &events, unasked)?;
+    match next {
+        Next::Act(action) => {
+            let first = Next::Act(action);
+            act_on_from(alloc, situation, events, tables, first, unasked, actions)
+        }
+        Next::ActFor(missed) => {
+            if !last && !is_looked_for(situation, &missed) {
+                let first = Next::ActFor(missed);
+                return act_on_from(alloc, situation, events, tables, first, unasked, actions);
+            }
+            let mut present = Changing::of(alloc, situation.pending.seed(), events);
+            let ended = act_last(
+                alloc,
+                situation,
+                missed,
+                last,
+                &mut present,
+                unasked,
+                actions,
+            )?;
+            Ok(Round {
+                events: present.into_set(),
+                tables,
+                ended,
+            })
+        }
+        Next::Renew => Ok(Round {
+            events,
+            tables,
+            ended: false,
+        }),
+        Next::Done => Ok(Round {
             events,
             tables,
             ended: true,
-        });
-    };
-    let mut after = events;
-    let ended = act_from(
-        alloc, situation, waiting, &tables, found, last, &mut after, actions,
+        }),
+    }
+}
+
+// Whether a guard looks for the name of the first event that is missed.
+fn is_looked_for(situation: &Situation<'_>, missed: &Missed) -> bool {
+    match missed.literals.first() {
+        Some(literal) => situation.past.looks_for(literal.event.name),
+        None => false,
+    }
+}
+
+// Does that and what is to be done after it, as long as the tables serve.
+fn act_on_from(
+    alloc: Global,
+    situation: &Situation<'_>,
+    events: EventSet,
+    tables: Tables,
+    first: Next,
+    unasked: &mut Unasked<'_>,
+    actions: &mut Actions,
+) -> Result<Round, NoMemory>
+    requires can { CanDecideSituation situation.now }
+    requires are { AreTablesAtStep situation.now.past.now situation.now.time events tables }
+    requires hold { GuardsWillHold situation.now.past.now situation.now.time events tables }
+    requires known { AreKnown situation.now.past.now events tables }
+    requires next { IsNextFor situation.now events events [] (IsDecidedAt situation.now events []) first }
+    requires first { IsFirstNext unasked.old first }
+    requires acts { IsForSome first }
+    requires kept { IsUnaskedAt situation.now events actions.old unasked.old }
+    ensures acts { IfOk result (λ round. SituationLeads situation.now events events actions.old round.events
+        actions.new) }
+    ensures more { IfOk result (λ round. round.ended ≡ false → length actions.old < length actions.new) }
+    ensures kept { IfOk result (λ round. IsUnaskedAt situation.now round.events actions.new unasked.new) }
+    ensures ended { IfOk result (λ round. IsTrue round.ended → EndsWith situation.now round.events round.tables) }
+{
+    unread_tables_stay();
+    let given = events.duplicate(alloc)?;
+    let mut present = Changing::of(alloc, situation.pending.seed(), events);
+    let ended = go_on(
+        alloc,
+        situation,
+        &given,
+        &tables,
+        first,
+        &mut present,
+        unasked,
+        actions,
     )?;
     Ok(Round {
-        events: after,
+        events: present.into_set(),
         tables,
         ended,
     })
 }
 
 // The first look of a round.
-fn look<'a>(
+fn look(
     alloc: Global,
     situation: &Situation<'_>,
-    waiting: &[&'a Instance],
     events: &EventSet,
-) -> Result<Seen<'a>, NoMemory>
+    unasked: &mut Unasked<'_>,
+) -> Result<Seen, NoMemory>
     requires can { CanDecideSituation situation.now }
-    requires among { AreAmong situation.now (shown waiting.now) }
-    requires start { IsMetBefore situation.now (shown waiting.now) events.now (record { instances = 0; rules = 0 }) }
-    ensures nothing { IfOk result (λ seen. IfNone seen.found (SituationFinds situation.now events.now None)) }
-    ensures found { IfOk result (λ seen. IfSome seen.found (IsFoundInSituation situation.now events.now events.now)) }
-    ensures place { IfOk result
-        (λ seen. IfSome seen.found (λ f. IsMetBefore situation.now (shown waiting.now) events.now f.place)) }
-    ensures last { IfOk result (λ seen. IfSome seen.found
-        (λ f. IsTrue seen.last → NoneIsWoken situation.now events.now (rule_found f))) }
+    requires kept { (told : List AnyEvent) × IsUnasked situation.now events.now told unasked.old }
+    ensures kept { OnOk result ((told : List AnyEvent) → IsUnasked situation.now events.now told unasked.old
+        → IsUnasked situation.now events.now told unasked.new) }
+    ensures told { unasked.new.roused ≡ unasked.old.roused }
+    ensures next { IfOk result (λ seen. IsNextFor situation.now events.now events.now []
+        (IsDecidedAt situation.now events.now []) seen.next) }
+    ensures first { IfOk result (λ seen. IsFirstNext unasked.new seen.next) }
+    ensures last { IfOk result (λ seen. IsTrue seen.last
+        → IsForLast situation.now events.now unasked.new.from seen.next) }
     ensures are { IfOk result (λ seen. AreTablesAtStep situation.now.past.now situation.now.time events.now
         seen.tables) }
-    ensures hold { IfOk result (λ seen.
-        GuardsWillHold situation.now.past.now situation.now.time events.now seen.tables) }
+    ensures hold { IfOk result (λ seen. GuardsWillHold situation.now.past.now situation.now.time events.now
+        seen.tables) }
     ensures known { IfOk result (λ seen. AreKnown situation.now.past.now events.now seen.tables) }
 {
     let ordered = StepEvents::of(alloc, events)?;
     let tables = situation.past.tables_at(alloc, situation.time, &ordered)?;
-    let start = Place {
-        instances: 0,
-        rules: 0,
-    };
-    let found = next_from(alloc, situation, waiting, events, &ordered, &tables, start)?;
-    let last = ends_round(situation, &found, &ordered);
-    Ok(Seen {
-        found,
-        tables,
-        last,
-    })
+    let gone = EventSet::new(alloc);
+    let present = PresentEvents::of(events, &gone);
+    let next = find_next(alloc, situation, &ordered, &tables, &present, &[], unasked)?;
+    let last = is_last(situation, &next, unasked.from, &ordered);
+    Ok(Seen { next, tables, last })
 }
 
-// Whether what was found is the root of a rule without choices, and the step wakes no rule after it.
-fn is_last(situation: &Situation<'_>, found: &Found<'_>, ordered: &StepEvents<'_>) -> bool
-    ensures { IsTrue result → NoneIsWoken situation.now ordered.now (rule_found found.now) }
+// Whether what is to be done is for the root that was asked last, and the step wakes no rule after it.
+fn is_last(situation: &Situation<'_>, next: &Next, from: usize, ordered: &StepEvents<'_>) -> bool
+    ensures { IsTrue result → IsForLast situation.now ordered.now from next.now }
 {
-    let all = ordered.set().as_slice();
-    let rule = rule_of(found.asked) as usize;
-    plain_rule(found.asked).is_some()
-        && situation.wakes.next_awake(rule + 1, all, ordered) >= situation.plans.len()
-}
-
-// Whether something was found that is the root of a rule without choices, and the step wakes no rule after it.
-fn ends_round(
-    situation: &Situation<'_>,
-    found: &Option<Found<'_>>,
-    ordered: &StepEvents<'_>,
-) -> bool
-    ensures { IfSome found.now (λ f. IsTrue result → NoneIsWoken situation.now ordered.now (rule_found f)) }
-{
-    match found {
-        Some(first) => is_last(situation, first, ordered),
-        None => false,
+    match next {
+        Next::ActFor(missed) => {
+            let rules = situation.plans.len();
+            if missed.rule != from || from >= rules {
+                return false;
+            }
+            let all = ordered.set().as_slice();
+            situation.wakes.next_awake(from + 1, all, ordered) >= rules
+        }
+        Next::Act(_) | Next::Renew | Next::Done => false,
     }
 }
 
-// Acts for the root after which no rule is woken; it answers whether no guard looks for a name that was acted on, so
-// that nothing is missing.
+// Acts for what a root misses. It answers whether nothing is missing, where no rule after it is woken, and no guard
+// looks for a name that was acted on.
 fn act_last(
     alloc: Global,
     situation: &Situation<'_>,
-    waiting: &[&Instance],
-    found: Found<'_>,
-    events: &mut EventSet,
+    missed: Missed,
+    last: bool,
+    present: &mut Changing,
+    unasked: &mut Unasked<'_>,
     actions: &mut Actions,
 ) -> Result<bool, NoMemory>
     requires can { CanDecideSituation situation.now }
-    requires among { AreAmong situation.now (shown waiting.now) }
-    requires found { IsFoundInSituation situation.now events.old events.old found }
-    requires place { IsMetBefore situation.now (shown waiting.now) events.old found.place }
-    requires last { NoneIsWoken situation.now events.old (rule_found found) }
-    ensures acts { OnOk result (SituationLeads situation.now events.old events.old actions.old events.new actions.new) }
+    requires missed { (given : List AnyEvent)
+        × IsMissedAtRoot situation.now given present.old missed.rule missed.literals.items }
+    requires wanted { (0 < length missed.literals.items) × AreWanted present.old missed.literals.items }
+    requires first { (unasked.old.asking.ahead ≡ []) × (missed.rule ≤ unasked.old.from) }
+    requires kept { IsUnaskedAt situation.now present.old actions.old unasked.old }
+    requires last { IsTrue last → NoneIsWoken situation.now present.old missed.rule }
+    ensures acts { OnOk result ((given : List AnyEvent)
+        → IsMissedAtRoot situation.now given present.old missed.rule missed.literals.items
+        → SituationLeads situation.now given present.old actions.old present.new actions.new) }
     ensures more { OnOk result (length actions.old < length actions.new) }
-    ensures nothing { IfOk result (λ ended. IsTrue ended → SituationFinds situation.now events.new None) }
+    ensures kept { OnOk result (IsUnaskedAt situation.now present.new actions.new unasked.new) }
+    ensures nothing { IfOk result (λ ended. IsTrue ended → SituationFinds situation.now present.new None) }
     ensures same { IfOk result (λ ended. IsTrue ended
-        → HaveSameEvents (guard_names situation.now.past.now.guards) events.old events.new) }
+        → HaveSameEvents (guard_names situation.now.past.now.guards) present.old present.new) }
 {
     unwoken_is_idle();
-    let rule = rule_of(found.asked);
-    let reached = act_for(
-        alloc,
-        situation.pending.seed(),
-        situation.plans,
-        situation.past,
-        situation.batches.of_rule(rule),
-        situation.time,
-        situation.position,
-        found,
-        events,
-        actions,
+    let mut stale = Vec::new(alloc);
+    act_for(
+        alloc, situation, missed, present, unasked, &mut stale, actions,
     )?;
-    let Some(place) = reached else {
-        return Ok(false);
-    };
-    if place.instances < waiting.len() || place.rules <= rule as usize {
+    if !last {
         return Ok(false);
     }
-    Ok(true)
+    Ok(stale.is_empty())
 }
 
-// Acts for what was found first. Where others may miss something after it, it goes on with the tables, and with the
-// order of the events that there were. It answers whether no guard looks for a name that was acted on, so that nothing
-// is missing.
-fn act_from<'a>(
-    alloc: Global,
-    situation: &Situation<'_>,
-    waiting: &[&'a Instance],
-    tables: &Tables,
-    found: Found<'a>,
-    last: bool,
-    events: &mut EventSet,
-    actions: &mut Actions,
-) -> Result<bool, NoMemory>
-    requires can { CanDecideSituation situation.now }
-    requires among { AreAmong situation.now (shown waiting.now) }
-    requires are { AreTablesAtStep situation.now.past.now situation.now.time events.old tables.now }
-    requires hold { GuardsWillHold situation.now.past.now situation.now.time events.old tables.now }
-    requires known { AreKnown situation.now.past.now events.old tables.now }
-    requires found { IsFoundInSituation situation.now events.old events.old found }
-    requires place { IsMetBefore situation.now (shown waiting.now) events.old found.place }
-    requires last { IsTrue last → NoneIsWoken situation.now events.old (rule_found found) }
-    ensures acts { OnOk result (SituationLeads situation.now events.old events.old actions.old events.new actions.new) }
-    ensures more { OnOk result (length actions.old < length actions.new) }
-    ensures nothing { IfOk result (λ ended. IsTrue ended → SituationFinds situation.now events.new None) }
-    ensures same { IfOk result (λ ended. IsTrue ended
-        → HaveSameEvents (guard_names situation.now.past.now.guards) events.old events.new) }
-{
-    if last {
-        return act_last(alloc, situation, waiting, found, events, actions);
-    }
-    let given = events.duplicate(alloc)?;
-    let ordered = StepEvents::of(alloc, &given)?;
-    go_on(
-        alloc, situation, waiting, &ordered, tables, found, events, actions,
-    )
-}
-
-// Acts for what was found, and goes on from its place, until something looks for a name that was acted on; it answers
-// whether nothing did, so that nothing is missing.
+// Does what is to be done first, and acts for the next that misses something, again and again, with the tables and
+// with the order of the events with which the round began. It answers whether nothing is missing, and no guard looks for a name that was acted on.
 #[inline(never)]
-fn go_on<'a>(
+fn go_on(
     alloc: Global,
     situation: &Situation<'_>,
-    waiting: &[&'a Instance],
-    ordered: &StepEvents<'_>,
+    given: &EventSet,
     tables: &Tables,
-    found: Found<'a>,
-    events: &mut EventSet,
+    first: Next,
+    present: &mut Changing,
+    unasked: &mut Unasked<'_>,
     actions: &mut Actions,
 ) -> Result<bool, NoMemory>
     requires can { CanDecideSituation situation.now }
-    requires among { AreAmong situation.now (shown waiting.now) }
-    requires are { AreTablesAtStep situation.now.past.now situation.now.time ordered.now tables.now }
-    requires hold { GuardsWillHold situation.now.past.now situation.now.time ordered.now tables.now }
-    requires known { AreKnown situation.now.past.now ordered.now tables.now }
-    requires same { events.old ≡ ordered.now }
-    requires found { IsFoundInSituation situation.now ordered.now ordered.now found }
-    requires place { IsMetBefore situation.now (shown waiting.now) ordered.now found.place }
-    ensures acts { OnOk result (SituationLeads situation.now ordered.now ordered.now actions.old events.new
+    requires are { AreTablesAtStep situation.now.past.now situation.now.time given.now tables.now }
+    requires hold { GuardsWillHold situation.now.past.now situation.now.time given.now tables.now }
+    requires known { AreKnown situation.now.past.now given.now tables.now }
+    requires same { present.old ≡ given.now }
+    requires next { IsNextFor situation.now given.now given.now [] (IsDecidedAt situation.now given.now []) first }
+    requires first { IsFirstNext unasked.old first }
+    requires acts { IsForSome first }
+    requires kept { IsUnaskedAt situation.now given.now actions.old unasked.old }
+    ensures acts { OnOk result (SituationLeads situation.now given.now given.now actions.old present.new
         actions.new) }
     ensures more { OnOk result (length actions.old < length actions.new) }
-    ensures nothing { IfOk result (λ ended. IsTrue ended → SituationFinds situation.now events.new None) }
+    ensures kept { OnOk result (IsUnaskedAt situation.now present.new actions.new unasked.new) }
+    ensures nothing { IfOk result (λ ended. IsTrue ended → SituationFinds situation.now present.new None) }
     ensures same { IfOk result (λ ended. IsTrue ended
-        → HaveSameEvents (guard_names situation.now.past.now.guards) ordered.now events.new) }
+        → HaveSameEvents (guard_names situation.now.past.now.guards) given.now present.new) }
 {
     // Its clause says that no event stands twice.
-    let _given = ordered.set().as_slice();
-    let mut first = found;
+    let _given = given.as_slice();
+    let ordered = StepEvents::of(alloc, given)?;
+    let mut stale = Vec::new(alloc);
+    let mut next = first;
     loop {
-        let rule = rule_of(first.asked);
-        let reached = act_for(
-            alloc,
-            situation.pending.seed(),
-            situation.plans,
-            situation.past,
-            situation.batches.of_rule(rule),
-            situation.time,
-            situation.position,
-            first,
-            events,
-            actions,
-        )?;
-        let Some(place) = reached else {
-            return Ok(false);
-        };
-        let next = next_from(alloc, situation, waiting, events, ordered, tables, place)?;
         match next {
-            Some(next) => first = next,
-            None => return Ok(true),
+            Next::Act(action) => {
+                act(
+                    alloc,
+                    situation,
+                    Box::into_inner(action),
+                    present,
+                    unasked,
+                    &mut stale,
+                    actions,
+                )?;
+            }
+            Next::ActFor(missed) => {
+                act_for(
+                    alloc, situation, missed, present, unasked, &mut stale, actions,
+                )?;
+            }
+            Next::Renew => return Ok(false),
+            Next::Done => return Ok(true),
         }
+        let now = present.present();
+        next = find_next(
+            alloc,
+            situation,
+            &ordered,
+            tables,
+            &now,
+            stale.as_slice(),
+            unasked,
+        )?;
     }
 }
 
-// The first that misses something at a step, from a place on, with the order and the tables that there were before its
-// events changed in names that no guard looks for.
+// What is to be done for the first that misses something, with the order and the tables of other events.
 #[inline(always)]
-fn next_from<'a>(
+fn find_next(
     alloc: Global,
     situation: &Situation<'_>,
-    waiting: &[&'a Instance],
-    events: &EventSet,
     ordered: &StepEvents<'_>,
     tables: &Tables,
-    from: Place,
-) -> Result<Option<Found<'a>>, NoMemory>
+    events: &PresentEvents<'_>,
+    stale: &[NameId],
+    unasked: &mut Unasked<'_>,
+) -> Result<Next, NoMemory>
     requires can { CanDecideSituation situation.now }
-    requires among { AreAmong situation.now (shown waiting.now) }
     requires are { AreTablesAtStep situation.now.past.now situation.now.time ordered.now tables.now }
     requires hold { GuardsWillHold situation.now.past.now situation.now.time ordered.now tables.now }
     requires known { AreKnown situation.now.past.now ordered.now tables.now }
-    requires same { HaveSameEvents (guard_names situation.now.past.now.guards) ordered.now events.now }
+    requires same { HaveSameFreshEvents stale.now (guard_names situation.now.past.now.guards) ordered.now events.now }
     requires fewer { GainsNoSuppressed (situation_plans situation.now) ordered.now events.now }
-    requires before { IsMetBefore situation.now (shown waiting.now) events.now from }
-    ensures nothing { IfOk result (λ found. IfNone found (SituationFinds situation.now events.now None)) }
-    ensures found { IfOk result (λ found. IfSome found (IsFoundInSituation situation.now ordered.now events.now)) }
-    ensures place { IfOk result
-        (λ found. IfSome found (λ f. IsMetBefore situation.now (shown waiting.now) events.now f.place)) }
+    requires kept { (told : List AnyEvent) × IsUnasked situation.now events.now told unasked.old }
+    ensures kept { OnOk result ((told : List AnyEvent) → IsUnasked situation.now events.now told unasked.old
+        → IsUnasked situation.now events.now told unasked.new) }
+    ensures told { unasked.new.roused ≡ unasked.old.roused }
+    ensures next { IfOk result (IsNextFor situation.now ordered.now events.now stale.now
+        (IsDecidedAt situation.now events.now stale.now)) }
+    ensures first { IfOk result (IsFirstNext unasked.new) }
 {
-    dependence();
     let now = Now {
         time: situation.time,
         position: situation.position,
         events,
         ordered,
         tables,
+        stale,
     };
-    let found = first_action(alloc, situation, waiting, &now, from)?;
-    Ok(found)
+    find(alloc, situation, &now, unasked)
 }

@@ -4,18 +4,17 @@
 
 pub mod actions;
 mod apply_actions;
-mod apply_batch;
-pub mod batches;
+mod changing;
 pub mod choice_loop;
 mod first_missing;
 pub mod idle_steps;
 pub mod laws;
 pub mod rule_triggers;
 mod situation;
+mod unasked;
 mod woken_rules;
 pub mod worked_cases;
 
 pub use actions::{Action, Actions};
-pub use batches::Batches;
 pub use choice_loop::{Choice, choose, choose_with};
 pub use rule_triggers::Wakes;

@@ -1,5 +1,4 @@
 //! The situation in which a step is decided.
-use crate::batches::Batches;
 use crate::rule_triggers::Wakes;
 use past_state::PastState;
 use pending::Pending;
@@ -11,7 +10,6 @@ use plan_terms::Plan;
 pub struct Situation<'a> {
     pub plans: &'a [Plan],
     pub wakes: &'a Wakes,
-    pub batches: &'a Batches,
     pub pending: &'a Pending,
     pub past: &'a PastState,
     pub time: u64,

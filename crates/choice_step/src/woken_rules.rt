@@ -1,5 +1,5 @@
 //! Which rules the events of a step wake, found by their names.
-ghost use Rattle.std.specs.Prelude.{◌≡◌, ◌≤◌, ◌++◌, ℕ, List, None, Some, OnOk, IfOk, Contains, map};
+ghost use Rattle.std.specs.Prelude.{◌≡◌, ◌≤◌, ◌⊎◌, ◌++◌, ℕ, List, None, Some, OnOk, IfOk, Contains, map};
 ghost use Rattle.std.specs.Prelude.{slice_get};
 ghost use Rattle.std.specs.List.Sorted.{IsSortedByKey};
 ghost use Rattle.std.specs.Option.{option_map};
@@ -96,6 +96,7 @@ pub fn least_from(rules: &[usize], from: usize, last: usize) -> usize
     requires { from ≤ last }
     ensures within { (from ≤ result) × (result ≤ last) }
     ensures least { (rule : ℕ) → Contains rules.now rule → from ≤ rule → result ≤ rule }
+    ensures there { (result ≡ last) ⊎ Contains rules.now result }
 {
     let mut least = last;
     for rule in rules {

@@ -1,6 +1,6 @@
 //! Deadlines, and what is owed by them, with ample memory.
 ghost use Rattle.std.specs.Prelude.{◌≡◌, ◌≤◌, ◌^◌, OnOk, length, map};
-ghost use Rattle.past_state.specs.machine.GuardPlaces.{guards_at};
+ghost use Rattle.obligations.specs.machine.FreshGuards.{guards_now};
 ghost use Rattle.obligations.specs.machine.PlanClasses.{PlansStand};
 ghost use Rattle.obligations.specs.machine.AskablePlans.{CanAskRoots};
 ghost use Rattle.obligations.specs.declared.present_step.TheConstants.{MOST_TIME};
@@ -15,10 +15,10 @@ use enforcer_core::laws::takes_are_few;
 use enforcer_core::{Enforcer, StepOut, StepRefusal};
 use formula_reader::read_policy;
 use monitorable_guard::StepEvents;
-use obligations::Now;
 use obligations::begin::take;
 use obligations::laws::well_formed_can_be_asked;
 use obligations::missing_literals::{lack, lack_pending};
+use obligations::{Now, PresentEvents};
 use past_state::{PastState, Tables};
 use pending::Pending;
 use plan_terms::Plan;
@@ -159,19 +159,22 @@ fn find_over(
     requires { AreCopies typed.now.guards tables.now.guards }
 {
     well_formed_can_be_asked();
+    let gone = EventSet::new(alloc);
+    let events = PresentEvents::of(ordered.set(), &gone);
     let now = Now {
         time: 5,
         position: 0,
-        events: ordered.set(),
+        events: &events,
         ordered,
         tables,
+        stale: &[],
     };
     find_begun(alloc, typed.plans(), &now, found)?;
     find_pending(alloc, typed.plans(), &now, found)
 }
 
 fn find_begun(alloc: Global, plans: &[Plan], now: &Now<'_>, found: &mut Found) -> Result<(), Fail>
-    requires roots { CanAskRoots (guards_at now.now.tables.now) (map plan_of plans.now) }
+    requires roots { CanAskRoots (guards_now now.now) (map plan_of plans.now) }
     requires in_time { now.now.time ≤ MOST_TIME }
 {
     let Some(plan) = plans.first() else {
@@ -184,7 +187,7 @@ fn find_begun(alloc: Global, plans: &[Plan], now: &Now<'_>, found: &mut Found) -
 }
 
 fn find_pending(alloc: Global, plans: &[Plan], now: &Now<'_>, found: &mut Found) -> Result<(), Fail>
-    requires roots { CanAskRoots (guards_at now.now.tables.now) (map plan_of plans.now) }
+    requires roots { CanAskRoots (guards_now now.now) (map plan_of plans.now) }
     requires named { PlansStand (map plan_of plans.now) }
     requires few { length plans.now ≤ 2 ^ 32 }
     requires in_time { now.now.time ≤ MOST_TIME }

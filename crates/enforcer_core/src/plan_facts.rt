@@ -5,17 +5,15 @@ ghost use Rattle.obligations.specs.machine.PlanClasses.{LooksAtNow};
 ghost use Rattle.plan_terms.specs.machine.StoredPlans.{plan_of};
 ghost use Rattle.enforcer_core.specs.machine.StepMemory.{AreFactsOf};
 
-use choice_step::{Batches, Wakes};
+use choice_step::Wakes;
 use enf_data::memory::NoMemory;
 use plan_terms::Plan;
 use std::alloc::Global;
 
-// Which of the plans a step can wake, what they suppress that can be taken out at once, and whether none of them looks
-// ahead.
+// Which of the plans a step can wake, and whether none of them looks ahead.
 #[derive(Drop)]
 pub(crate) struct PlanFacts {
     pub(crate) wakes: Wakes,
-    pub(crate) batches: Batches,
     pub(crate) looks_at_now: bool,
 }
 
@@ -24,10 +22,8 @@ impl PlanFacts {
         ensures { IfOk result (AreFactsOf (map plan_of plans.now)) }
     {
         let wakes = Wakes::of(alloc, plans)?;
-        let batches = Batches::of(alloc, plans)?;
         Ok(PlanFacts {
             wakes,
-            batches,
             looks_at_now: none_looks_ahead(plans),
         })
     }

@@ -9,10 +9,7 @@ ghost use Rattle.past_state.specs.machine.GuardPlaces.{placed_guard};
 ghost use Rattle.past_state.specs.machine.UntouchedSteps.{AreUntouched};
 ghost use Rattle.obligations.specs.machine.Successors.{LeadsAt};
 ghost use Rattle.obligations.specs.machine.AskablePlans.{CanAskOf};
-ghost use Rattle.pending.specs.machine.Moments.{step_moment};
 ghost use Rattle.pending.specs.machine.PendingLists.{IsPendingListOf, listed_instances};
-ghost use Rattle.pending.specs.machine.Waits.{SleepsNow};
-ghost use Rattle.sleepers.specs.machine.Entries.{AllButThose};
 ghost use Rattle.past_state.specs.machine.Past.{GuardsWillHold};
 ghost use Rattle.std.specs.List.{AllByRecursion};
 ghost use Rattle.trace_meaning.specs.meaning.Traces.{StepRecord, Tick, most_time};
@@ -35,10 +32,10 @@ use enf_data::event_sets::EventSet;
 use enf_data::memory::NoMemory;
 use enforce_types::TypedPolicy;
 use monitorable_guard::StepEvents;
-use obligations::Now;
 use obligations::laws::{
     now_stands, pending_exists, pending_is_enough, pending_was_begun, traces_grow,
 };
+use obligations::{Now, PresentEvents};
 use past_state::{PastState, Tables};
 use pending::Pending;
 use plan_terms::Plan;
@@ -91,8 +88,7 @@ impl Remembered {
         trace_grows();
         asleep_is_idle();
         let inserted = is_inserted(kind);
-        let idle = self.is_idle(alloc, &facts.wakes, events.as_slice(), time, inserted)?;
-        if idle {
+        if self.is_idle(&facts.wakes, events.as_slice(), time, inserted) {
             self.past.pass(time)?;
             self.position += 1;
             self.last = Some(time);
@@ -108,50 +104,32 @@ impl Remembered {
         Ok(step)
     }
 
-    // Whether no rule is woken by the events, they touch nothing that is remembered of the past, and all that is
-    // pending sleeps. An inserted step, at which something is served, is not looked at.
+    // Whether no rule is woken by the events, they touch nothing that is remembered of the past, and none of what is
+    // pending waits for events of their names or for the time. An inserted step, at which something is served, is not
+    // looked at.
     #[inline(always)]
-    fn is_idle(
-        &self,
-        alloc: Global,
-        wakes: &Wakes,
-        events: &[Event],
-        time: u64,
-        inserted: bool,
-    ) -> Result<bool, NoMemory>
+    fn is_idle(&self, wakes: &Wakes, events: &[Event], time: u64, inserted: bool) -> bool
         requires kept { listed_instances self.now.pending.listed ≡ self.now.pending.instances }
-        ensures { IfOk result (λ idle. IsTrue idle → IsIdle wakes.now self.now inserted time events.now) }
+        ensures { IsTrue result → IsIdle wakes.now self.now inserted time events.now }
     {
         if inserted {
-            return Ok(false);
+            return false;
         }
         if !self.changes_nothing(wakes, events) {
-            return Ok(false);
+            return false;
         }
         if self.pending.len() == 0 {
-            return Ok(true);
+            return true;
         }
-        self.all_sleep(alloc, events, time, inserted)
-    }
-
-    // Whether all that is pending sleeps at a step with these events.
-    #[inline(never)]
-    fn all_sleep(
-        &self,
-        alloc: Global,
-        events: &[Event],
-        time: u64,
-        inserted: bool,
-    ) -> Result<bool, NoMemory>
-        ensures { IfOk result (λ all. IsTrue all
-            → AllButThose (SleepsNow events.now (step_moment inserted time)) self.now.pending.listed []) }
-    {
-        let woken = self.pending.woken(alloc, events, time, inserted)?;
-        Ok(woken.is_empty())
+        if self.pending.may_wake(events, time, inserted) {
+            return false;
+        }
+        true
     }
 
     // Whether the events wake no rule and touch nothing that is remembered of the past, which is not looked for among
     // many.
+    #[inline(always)]
     fn changes_nothing(&self, wakes: &Wakes, events: &[Event]) -> bool
         ensures asleep { IsTrue result → AllSleep wakes.now events.now }
         ensures untouched { IsTrue result → AreUntouched events.now self.now.past.operators }
@@ -192,7 +170,6 @@ impl Remembered {
         } = choose_with(
             alloc,
             &facts.wakes,
-            &facts.batches,
             plans,
             &self.pending,
             &self.past,
@@ -449,12 +426,15 @@ impl Remembered {
             (CanAskOf (map placed_guard self.old.past.guards) (map plan_of plans.now)) self.new.pending.instances) }
     {
         now_stands();
+        let gone = EventSet::new(alloc);
+        let events = PresentEvents::of(ordered.set(), &gone);
         let now = Now {
             time,
             position: self.position,
-            events: ordered.set(),
+            events: &events,
             ordered,
             tables,
+            stale: &[],
         };
         self.pending.progress(alloc, plans, &now, inserted)
     }

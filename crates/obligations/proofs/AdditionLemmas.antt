@@ -2,7 +2,7 @@
 use Rattle.obligations.proofs.Vocabulary.{◌≡◌, ℕ, zero, suc, ◌+◌, ◌<◌, Bool, true, false, List, [], ◌∷◌, ◌++◌, length, take, Contains, Option, refl, sym, ap, subst, arith, inl, inr, ◌∙◌, append_assoc}
 use Rattle.obligations.proofs.Vocabulary.{get_or, true≢false, IsFalse, option_to_list, append-nil, here, later, Valuation, values_of_terms, with_values, BindsColumns, Event, NameId, Step, Term, VarId}
 use Rattle.obligations.proofs.Vocabulary.{Value, Formula, AreNewVariables, AreOpen, FreeWithin, HasOpenColumns, IsEvaluated, Plan, CausePlan, SuppressPlan, Either, TestOr, UntilPlan, filled_from_row}
-use Rattle.obligations.proofs.Vocabulary.{IsTable, Relation, AddsList, TellsNothing, IsNowOf, CanAskPlan, CanAskIn, IsGuardAt, FitsScope, guards_at, LiteralUnless, Missing, HasSome, MissesEither}
+use Rattle.obligations.proofs.Vocabulary.{IsTable, Relation, AddsList, TellsNothing, IsNowOf, CanAskPlan, CanAskIn, IsGuardAt, FitsScope, guards_now, LiteralUnless, Missing, HasSome, MissesEither}
 use Rattle.obligations.proofs.Vocabulary.{OfEvent, cause_literal, suppress_literal, Gathers, Literal, Now}
 use Rattle.std.specs.Prelude.{IsTrue}
 use Rattle.obligations.proofs.AskablePlanLemmas.{filled_is, row_fits, same_columns, test_is, under_row}
@@ -103,7 +103,7 @@ module _ (now : Now) (v : Valuation) where
       adds_as now (λ trace. Missing trace left v) (λ trace. Missing trace (UntilPlan node place (suc low) high left right) v) before after
       (λ trace is xs missing. missing) adds
 
-  module _ (n : ℕ) (f : Formula) (scope : List VarId) (at : IsGuardAt (guards_at now.tables.now) n f scope) (binds : BindsColumns v scope) where
+  module _ (n : ℕ) (f : Formula) (scope : List VarId) (at : IsGuardAt (guards_now now) n f scope) (binds : BindsColumns v scope) where
     pub test_nothing : (node : ℕ) (body : Plan) (out : List Literal) → FreeWithin f (Contains scope) → (holds : Bool)
         → IsEvaluated now.tables.now n now.ordered.now v holds → IsTrue holds → Listed (TestOr node n f body) out out
     test_nothing node body out free holds told is_true =
@@ -137,7 +137,7 @@ module _ (now : Now) (v : Valuation) where
       (λ e. LiteralUnless (Contains events e → ⊥) (suppress_literal e node) (option_to_list found))) (sym is.events) missing)
 
 -- under each row
-module _ (now : Now) (n : ℕ) (f : Formula) (scope xs : List VarId) (at : IsGuardAt (guards_at now.tables.now) n f scope)
+module _ (now : Now) (n : ℕ) (f : Formula) (scope xs : List VarId) (at : IsGuardAt (guards_now now) n f scope)
     (opening : AreOpen f scope xs) (new : AreNewVariables scope xs) (v : Valuation) (fit : FitsScope scope v) (t : Relation)
     (table : IsTable t) (columns : HasOpenColumns now.tables.now n t) where
   -- the values of a row of the table are those of the variables

@@ -4,25 +4,38 @@ use Rattle.obligations.proofs.Vocabulary.{Contains-append_left, Contains-append_
 use Rattle.obligations.proofs.Vocabulary.{same_rising, Valuation, value_at, variable_cmp, with_values, BindsColumns, variable_cmp_total, Step, Term, Var, VarId, Value, some_value, Formula, IsFree}
 use Rattle.obligations.proofs.Vocabulary.{AreTermsInScope, AreNewVariables, IsTermInScope, new_apart, AreOpen, HoldsNow, AreEvaluated, IsEvaluated, BindsBound, HasOpenColumns, IsGuard, IsTestOf}
 use Rattle.obligations.proofs.Vocabulary.{PastTables, guard_formula, tables_of, PlacedGuard, among_or_not, agrees_once, cell_some, table_row-length, value_at-with_inside, value_at-with_outside}
-use Rattle.obligations.proofs.Vocabulary.{filled_fresh, filled_from_row, AgreeOnColumns, AgreesWithRow, HasValuation, IsTable, Relation, FitsScope, IsGuardAt, IsNowOf, placed_guard, guards_at}
+use Rattle.obligations.proofs.Vocabulary.{filled_fresh, filled_from_row, AgreeOnColumns, AgreesWithRow, HasValuation, IsTable, Relation, FitsScope, IsGuardAt, IsNowOf, placed_guard, guards_now}
 use Rattle.obligations.proofs.Vocabulary.{AreGuardRows, HoldsLast, Now}
-use Rattle.std.specs.Prelude.{Bool}
+use Rattle.obligations.proofs.Vocabulary.{Bool, true, false, cond, NameId, IgnoresAll, askable, looks_for_any, unaskable}
+use Rattle.obligations.proofs.MovedTests.{ignores_all}
+use Rattle.monitorable_guard.specs.meaning.Safety.{Safe}
 
 -- ---- a guard at its number
 
-pub listed : (guards : List PlacedGuard) (n : ℕ) (f : Formula) (scope : List VarId)
-    → slice_get (map placed_guard guards) n ≡ Some (f, scope)
-    → (g : PlacedGuard) × (slice_get guards n ≡ Some g) × (n < length guards) × (guard_formula g ≡ f) × (g.guard.bound ≡ scope)
-listed [] n f scope e = absurd (none-some (f, scope) e)
-listed (g ∷ guards) zero f scope e =
-    let same = same_Some (placed_guard g) (f, scope) e in
-    (g, refl, omega arith, ap (λ p. p.0) same, ap (λ p. p.1) same)
-listed (g ∷ guards) (suc n) f scope e =
-    let (h, found, within, formula, bound) = listed guards n f scope e in (h, found, omega (arith, within), formula, bound)
+abbrev Listed : List NameId → List PlacedGuard → ℕ → Formula → List VarId → Type 0
+Listed stale guards n f scope = (g : PlacedGuard) × (slice_get guards n ≡ Some g) × (n < length guards) × (guard_formula g ≡ f) × (g.guard.bound ≡ scope)
+    × IgnoresAll stale (guard_formula g)
 
-module _ (tables : PastTables) (n : ℕ) (f : Formula) (scope : List VarId) (at : IsGuardAt (guards_at tables) n f scope) where
-  pub the_guard : (g : PlacedGuard) × (slice_get tables.guards n ≡ Some g) × (n < length tables.guards) × (guard_formula g ≡ f) × (g.guard.bound ≡ scope)
-  the_guard = listed tables.guards n f scope at.listed
+-- one that can be evaluated looks for no stale name
+first_listed : (stale : List NameId) (g : PlacedGuard) (guards : List PlacedGuard) (f : Formula) (scope : List VarId) (looks : Bool) → Safe f (Contains scope)
+    → looks_for_any stale (guard_formula g) ≡ looks → cond looks unaskable (placed_guard g) ≡ (f, scope) → Listed stale (g ∷ guards) 0 f scope
+first_listed stale g guards f scope true safe is same = absurd (subst (λ (p : Formula × List VarId). Safe p.0 (Contains scope)) (sym same) safe)
+first_listed stale g guards f scope false safe is same = (g, refl, omega arith, ap (λ p. p.0) same, ap (λ p. p.1) same, ignores_all stale (guard_formula g) is)
+
+listed : (stale : List NameId) (guards : List PlacedGuard) (n : ℕ) (f : Formula) (scope : List VarId) → Safe f (Contains scope)
+    → slice_get (map (askable stale) guards) n ≡ Some (f, scope) → Listed stale guards n f scope
+listed stale [] n f scope safe e = absurd (none-some (f, scope) e)
+listed stale (g ∷ guards) zero f scope safe e =
+    first_listed stale g guards f scope (looks_for_any stale (guard_formula g)) safe refl (same_Some (askable stale g) (f, scope) e)
+listed stale (g ∷ guards) (suc n) f scope safe e =
+    let (h, found, within, formula, bound, ignores) = listed stale guards n f scope safe e in (h, found, omega (arith, within), formula, bound, ignores)
+
+module _ (now : Now) (n : ℕ) (f : Formula) (scope : List VarId) (at : IsGuardAt (guards_now now) n f scope) where
+  abbrev tables : PastTables
+  tables = now.tables.now
+
+  pub the_guard : Listed now.stale.now tables.guards n f scope
+  the_guard = listed now.stale.now tables.guards n f scope at.safe at.listed
 
   pub within : n < length tables.guards
   within = the_guard.2
@@ -85,20 +98,20 @@ HoldFor now n v t = (g : PlacedGuard) → IsGuard now.tables.now.guards n g → 
 pub hold_for : (now : Now) (n : ℕ) (v : Valuation) (t : Relation) → AreEvaluated now.tables.now n now.ordered.now v t → HoldFor now n v t
 hold_for now n v t evaluated g found w agree binds has = (evaluated g found w agree binds).0 has
 
-module _ (now : Now) (n : ℕ) (f : Formula) (scope xs : List VarId) (at : IsGuardAt (guards_at now.tables.now) n f scope)
+module _ (now : Now) (n : ℕ) (f : Formula) (scope xs : List VarId) (at : IsGuardAt (guards_now now) n f scope)
     (opening : AreOpen f scope xs) (new : AreNewVariables scope xs) (v : Valuation) (fit : FitsScope scope v) (t : Relation)
     (table : IsTable t) (columns : HasOpenColumns now.tables.now n t) where
   abbrev g : PlacedGuard
-  g = (the_guard now.tables.now n f scope at).0
+  g = (the_guard now n f scope at).0
 
   abbrev found : IsGuard now.tables.now.guards n g
-  found = (the_guard now.tables.now n f scope at).1
+  found = (the_guard now n f scope at).1
 
   abbrev formula_is : guard_formula g ≡ f
-  formula_is = (the_guard now.tables.now n f scope at).3
+  formula_is = (the_guard now n f scope at).3
 
   abbrev bound_is : g.guard.bound ≡ scope
-  bound_is = (the_guard now.tables.now n f scope at).4
+  bound_is = (the_guard now n f scope at).4
 
   opens : AreOpen f scope t.columns
   opens = subst (λ h. AreOpen h scope t.columns) formula_is
@@ -149,7 +162,7 @@ module _ (now : Now) (n : ℕ) (f : Formula) (scope xs : List VarId) (at : IsGua
         → HoldsNow now.ordered.now (tables_of g now.tables.now) w (guard_formula g) ↔ HoldsLast trace w f
     on_trace trace is =
         subst (λ h. HoldsNow now.ordered.now (tables_of g now.tables.now) w (guard_formula g) ↔ HoldsLast trace w h) formula_is
-        (is.guards n g found w (λ x free. free_binds x (subst (IsFree x) formula_is free)))
+        (is.guards n g found (the_guard now n f scope at).5 w (λ x free. free_binds x (subst (IsFree x) formula_is free)))
 
   -- for each row of the table the guard holds by its tables
   pub row_holds : HoldFor now n v t → (row : List Value) → Contains t.rows row
@@ -174,13 +187,13 @@ module _ (now : Now) (n : ℕ) (f : Formula) (scope xs : List VarId) (at : IsGua
 
 -- a test holds at the step where it holds by its tables
 pub test_is : (now : Now) (trace : List Step) (n : ℕ) (f : Formula) (scope : List VarId)
-    → IsGuardAt (guards_at now.tables.now) n f scope → ((x : VarId) → IsFree x f → Contains scope x) → IsNowOf now trace
+    → IsGuardAt (guards_now now) n f scope → ((x : VarId) → IsFree x f → Contains scope x) → IsNowOf now trace
     → (v : Valuation) → BindsColumns v scope → (holds : Bool) → IsEvaluated now.tables.now n now.ordered.now v holds
     → IsTrue holds ↔ HoldsLast trace v f
 test_is now trace n f scope at free is v binds holds evaluated =
-    let (g, found, within, formula, bound) = the_guard now.tables.now n f scope at in
+    let (g, found, within, formula, bound, ignores) = the_guard now n f scope at in
     let told = evaluated g found in
-    let on_trace = is.guards n g found v (λ x of. binds x (free x (subst (IsFree x) formula of))) in (
+    let on_trace = is.guards n g found ignores v (λ x of. binds x (free x (subst (IsFree x) formula of))) in (
       λ is_true. subst (HoldsLast trace v) formula (on_trace.0 (told.0 is_true)),
       λ holds. told.1 (on_trace.1 (subst (HoldsLast trace v) (sym formula) holds)),
     )

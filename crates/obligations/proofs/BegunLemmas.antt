@@ -4,7 +4,7 @@ use Rattle.obligations.proofs.Vocabulary.{inr, ◌⊎◌, ◌∙◌, true≢fals
 use Rattle.obligations.proofs.Vocabulary.{here, Value, Valuation, with_values, BindsColumns, Step, VarId, Formula, AreNewVariables, AreOpen, FreeWithin, AreEvaluated, HasOpenColumns, IsEvaluated}
 use Rattle.obligations.proofs.Vocabulary.{GuardLooksBack, EndsInTime, is_future, nodes, node_number, Plan, Both, Either, TestOr, Guarded, EventuallyPlan, AlwaysPlan, UntilPlan, NextPlan}
 use Rattle.obligations.proofs.Vocabulary.{IsNodeByNumber, StandsIn, filled_from_row, IsTable, Relation, AddsAsked, IsBegunHere, TellsNothing, begun_at_now, IsNowOf, IsSideTaken, TakesSide, CanAskPlan}
-use Rattle.obligations.proofs.Vocabulary.{IsGuardAt, CanAskOf, FitsScope, guards_at, BeginsOrWaits, Begun, LacksNothing, LacksSome, WithBehind, begun_now, Gathers, IsReachedBy, Instance, Now}
+use Rattle.obligations.proofs.Vocabulary.{IsGuardAt, CanAskOf, FitsScope, guards_now, BeginsOrWaits, Begun, LacksNothing, LacksSome, WithBehind, begun_now, Gathers, IsReachedBy, Instance, Now}
 use Rattle.std.specs.Prelude.{IsTrue}
 use Rattle.obligations.proofs.AdditionLemmas.{gathers_as, row_is}
 use Rattle.obligations.proofs.AskablePlanLemmas.{hold_for, rows_are, test_is}
@@ -78,7 +78,7 @@ module _ (now : Now) (rule : ℕ) where
       grown = next.adds.grown ∙ (ap (λ l. l ++ next.adds.more) first.adds.grown ∙ append_assoc before first.adds.more next.adds.more);
       are = λ trace is. join trace first.adds.more next.adds.more (first.adds.are trace is) (next.adds.are trace is);
     };
-    asked = λ plans stands. AllByRecursion-append (CanAskOf (guards_at now.tables.now) plans) first.adds.more next.adds.more
+    asked = λ plans stands. AllByRecursion-append (CanAskOf (guards_now now) plans) first.adds.more next.adds.more
         (first.asked plans (stands_inside plans rule one whole inside stands))
         (next.asked plans (stands_inside plans rule other whole too stands));
     begun = AllByRecursion-append (IsBegunHere now rule whole) first.adds.more next.adds.more
@@ -96,7 +96,7 @@ module _ (now : Now) (rule : ℕ) where
       (λ i. (sym is.position i, sym is.time i))
 
   pub asked_instance : (plan : Plan) (low high : ℕ) (v : Valuation) → is_future plan ≡ true
-      → ((plans : List Plan) → StandsIn plans rule plan → IsNodeByNumber plans rule plan) → CanAskPlan (guards_at now.tables.now) plan v
+      → ((plans : List Plan) → StandsIn plans rule plan → IsNodeByNumber plans rule plan) → CanAskPlan (guards_now now) plan v
       → AllByRecursion EndsInTime (nodes plan) → IsBegunHere now rule plan (begun_at_now now rule (node_number plan) low high v)
       → (before after : List Instance) → after ≡ before ++ begun_at_now now rule (node_number plan) low high v ∷ []
       → AddsAsked now rule plan (IsBegun (node_number plan) low high v) before after
@@ -128,7 +128,7 @@ module _ (now : Now) (rule : ℕ) (v : Valuation) where
   Puts plan before after = AddsAsked now rule plan (λ trace. Begun trace rule plan v) before after
 
   abbrev pub MayAsk : Plan → Type 0
-  MayAsk plan = CanAskPlan (guards_at now.tables.now) plan v
+  MayAsk plan = CanAskPlan (guards_now now) plan v
 
   pub both_begun : (node : ℕ) (left right : Plan) (before between after : List Instance) → Puts left before between
       → Puts right between after → Puts (Both node left right) before after
@@ -255,7 +255,7 @@ module _ (now : Now) (rule : ℕ) (v : Valuation) where
 
   -- ---- tests
 
-  module _ (n : ℕ) (f : Formula) (scope : List VarId) (at : IsGuardAt (guards_at now.tables.now) n f scope) (binds : BindsColumns v scope)
+  module _ (n : ℕ) (f : Formula) (scope : List VarId) (at : IsGuardAt (guards_now now) n f scope) (binds : BindsColumns v scope)
       (free : FreeWithin f (Contains scope)) (holds : Bool) (told : IsEvaluated now.tables.now n now.ordered.now v holds) (node : ℕ) (body : Plan) where
     pub test_begins_nothing : IsTrue holds → (out : List Instance) → Puts (TestOr node n f body) out out
     test_begins_nothing is_true out =
@@ -273,7 +273,7 @@ module _ (now : Now) (rule : ℕ) (v : Valuation) where
 
 -- ---- rows
 
-module _ (now : Now) (n : ℕ) (f : Formula) (scope xs : List VarId) (at : IsGuardAt (guards_at now.tables.now) n f scope)
+module _ (now : Now) (n : ℕ) (f : Formula) (scope xs : List VarId) (at : IsGuardAt (guards_now now) n f scope)
     (opening : AreOpen f scope xs) (new : AreNewVariables scope xs) (v : Valuation) (fit : FitsScope scope v) (t : Relation)
     (table : IsTable t) (columns : HasOpenColumns now.tables.now n t)
     (evaluated : AreEvaluated now.tables.now n now.ordered.now v t) where

@@ -2,7 +2,7 @@
 use Rattle.obligations.proofs.Vocabulary.{◌≡◌, ℕ, zero, suc, ◌<◌, Bool, true, false, List, [], ◌∷◌, ◌++◌, length, Contains, Option, None, Some, refl, sym, subst, arith, inl, inr, ◌∙◌, true≢false}
 use Rattle.obligations.proofs.Vocabulary.{take, get_or, is_none, option_to_list, ◌↔◌, IsFalse, IsSome, not, Valuation, value_at, values_of_terms, BindsColumns, Event, NameId, Step, Term, Var, VarId}
 use Rattle.obligations.proofs.Vocabulary.{Formula, IsEventAmong, FreeWithin, IsEvaluated, Plan, CausePlan, SuppressPlan, Both, Either, TestOr, UntilPlan, TellsNothing, IsNowOf, CanAskPlan, IsGuardAt}
-use Rattle.obligations.proofs.Vocabulary.{guards_at, MissingExists, LiteralUnless, Missing, OfEvent, cause_literal, suppress_literal, Gathers, FirstMissing, FirstOf, Literal, Now, later}
+use Rattle.obligations.proofs.Vocabulary.{guards_now, MissingExists, LiteralUnless, Missing, OfEvent, cause_literal, suppress_literal, Gathers, FirstMissing, FirstOf, Literal, Now, later}
 use Rattle.std.specs.Prelude.{IsTrue}
 use Rattle.obligations.proofs.AdditionLemmas.{gathers_exist, right_of_either}
 use Rattle.obligations.proofs.AskablePlanLemmas.{test_is}
@@ -94,7 +94,7 @@ module _ (now : Now) (v : Valuation) where
       first_as (Missing trace left v) (Missing trace (UntilPlan node place 0 high left right) v) (λ ls missing. inr (told refl trace is, missing)) found (first trace is)
   until_first node place (suc low) high left right found told first trace is = first trace is
 
-  module _ (n : ℕ) (f : Formula) (scope : List VarId) (at : IsGuardAt (guards_at now.tables.now) n f scope) (binds : BindsColumns v scope) where
+  module _ (n : ℕ) (f : Formula) (scope : List VarId) (at : IsGuardAt (guards_now now) n f scope) (binds : BindsColumns v scope) where
     pub test_none : (node : ℕ) (body : Plan) → FreeWithin f (Contains scope) → (holds : Bool)
         → IsEvaluated now.tables.now n now.ordered.now v holds → IsTrue holds → First (TestOr node n f body) None
     test_none node body free holds told is_true trace is = inl ((test_is now trace n f scope at free is v binds holds told).0 is_true, refl)

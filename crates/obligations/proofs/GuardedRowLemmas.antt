@@ -3,7 +3,7 @@ use Rattle.obligations.proofs.Vocabulary.{◌≡◌, ◌↔◌, ◌∙◌, ℕ, 
 use Rattle.obligations.proofs.Vocabulary.{same_Some, All-contains, Contains-append, here, later, none_in_nil, first_or_later, Decides, unsigned_Decides, same_rising, Valuation, value_at}
 use Rattle.obligations.proofs.Vocabulary.{values_of_terms, with_values, row_cmp, row_cmp_total, Event, NameId, Step, Term, Const, Var, VarId, Value, Formula, IsEventAmong, AreNewVariables, AreOpen}
 use Rattle.obligations.proofs.Vocabulary.{AreTermsInScope, IsTermInScope, AllByRecursion-contains, AreEvaluated, HasOpenColumns, IsKnownOfGuard, HoldsNow, Plan, SuppressPlan, TestOr, Guarded}
-use Rattle.obligations.proofs.Vocabulary.{filled_from_row, HasValuation, IsTable, Relation, IsNowOf, CanAskPlan, CanAskIn, IsGuardAt, FitsScope, guards_at, MissingExists, AreGuardRows, HoldsLast}
+use Rattle.obligations.proofs.Vocabulary.{filled_from_row, HasValuation, IsTable, Relation, IsNowOf, CanAskPlan, CanAskIn, IsGuardAt, FitsScope, guards_now, MissingExists, AreGuardRows, HoldsLast}
 use Rattle.obligations.proofs.Vocabulary.{Gathers, IsAbsent, LiteralUnless, Missing, OfEvent, suppress_literal, last_events, Literal, Now, among_or_not, value_at-with_outside, tables_of}
 use Rattle.obligations.proofs.Vocabulary.{guard_formula, ◌||◌, ◌<◌, BindsBound, HasNoRepeats, IsFree, Result, Ok, Err, IfOk, ◌+◌, append-nil, get_or, take}
 use Rattle.std.specs.List.{filter}
@@ -99,11 +99,17 @@ absent_nothing trace (TestOr node guard test body) name terms is w ls missing aw
     ⊎_elim (λ met. met.1) (λ fails. absent_nothing trace body name terms is w ls fails.1 away) missing
 absent_nothing trace body name terms is w ls missing away = absurd (none-some (name, terms) is)
 
+-- what is among some events is among more
+among_more : (some all : List Event) → ((event : Event) → Contains some event → Contains all event) → (name : NameId)
+    → (args : Option (List Value)) → IsEventAmong some name args → IsEventAmong all name args
+among_more some all more name None among = among
+among_more some all more name (Some args) among = more (record { name = name; args = args }) among
+
 -- ---- a guard, and rows of it
 
-module _ (now : Now) (n : ℕ) (f : Formula) (scope xs : List VarId) (at : IsGuardAt (guards_at now.tables.now) n f scope)
+module _ (now : Now) (n : ℕ) (f : Formula) (scope xs : List VarId) (at : IsGuardAt (guards_now now) n f scope)
     (opening : AreOpen f scope xs) (new : AreNewVariables scope xs) (v : Valuation) (fit : FitsScope scope v) (node : ℕ) (body : Plan)
-    (can : CanAskIn (guards_at now.tables.now) body (scope ++ xs)) (t : Relation) (table : IsTable t)
+    (can : CanAskIn (guards_now now) body (scope ++ xs)) (t : Relation) (table : IsTable t)
     (columns : HasOpenColumns now.tables.now n t) where
   abbrev whole : Plan
   whole = Guarded node xs n f body
@@ -115,7 +121,7 @@ module _ (now : Now) (n : ℕ) (f : Formula) (scope xs : List VarId) (at : IsGua
       → ((trace : List Step) → IsNowOf now trace → (ls : List Literal) → Gathers (Under trace) t.rows ls → Missing trace whole v ls)
       → TellMissing now whole body v t
   tell sound known missed = record {
-    asked = body_can now n f scope xs at opening new v fit t table columns (guards_at now.tables.now) body can;
+    asked = body_can now n f scope xs at opening new v fit t table columns (guards_now now) body can;
     missed = λ trace is ls gathered. missed trace is ls
         (gathers_as (λ row. Missing trace body (filled_from_row v t.columns row)) (Under trace) t.rows ls
         (λ row there ys missing. subst (λ u. Missing trace body u ys) (row_is now n f scope xs at opening new v fit t table columns row) missing) gathered);
@@ -132,14 +138,15 @@ module _ (now : Now) (n : ℕ) (f : Formula) (scope xs : List VarId) (at : IsGua
   -- those of them for which there is the event that the body suppresses
   module _ (name : NameId) (terms : List Term) (own : suppressed_alone body ≡ Some (name, terms)) (some : Relation)
       (named : some.columns ≡ filter (is_in_terms terms) xs)
-      (matches : (u : Valuation) → HasValuation some u ↔ IsMatchOfName now.events.now name terms v some.columns u)
+      (all : List Event) (more : (event : Event) → Contains now.events.now event → Contains all event)
+      (matches : (u : Valuation) → HasValuation some u ↔ IsMatchOfName all name terms v some.columns u)
       (evaluated : AreEvaluatedIn some now.tables.now n now.ordered.now v t) where
     in_scope : (x : VarId) → Contains terms (Var x) → Contains (scope ++ xs) x
     in_scope x there =
-        AllByRecursion-contains (IsTermInScope (scope ++ xs)) terms (Var x) (terms_in_scope (guards_at now.tables.now) body (scope ++ xs) name terms own can) there
+        AllByRecursion-contains (IsTermInScope (scope ++ xs)) terms (Var x) (terms_in_scope (guards_now now) body (scope ++ xs) name terms own can) there
 
     abbrev IsThere : Valuation → Type 0
-    IsThere u = IsEventAmong now.events.now name (values_of_terms u terms)
+    IsThere u = IsEventAmong all name (values_of_terms u terms)
 
     module _ (row : List Value) (long : length row ≡ length xs) where
       abbrev w : Valuation
@@ -155,8 +162,8 @@ module _ (now : Now) (n : ℕ) (f : Formula) (scope xs : List VarId) (at : IsGua
       match_of : IsThere w → HasValuation some w
       match_of there = (matches w).1 (by (values_of_terms w terms) refl there)
         where
-          by : (o : Option (List Value)) → values_of_terms w terms ≡ o → IsEventAmong now.events.now name o
-              → IsMatchOfName now.events.now name terms v some.columns w
+          by : (o : Option (List Value)) → values_of_terms w terms ≡ o → IsEventAmong all name o
+              → IsMatchOfName all name terms v some.columns w
           by None e among = absurd among
           by (Some args) e among = (record { name = name; args = args }, among, (refl, (w, extends_row, e, λ x column. refl)))
 
@@ -168,18 +175,18 @@ module _ (now : Now) (n : ℕ) (f : Formula) (scope xs : List VarId) (at : IsGua
           (λ old. sym (same_on_scope scope xs new v fit row long x old) ∙ same_on v u x m.2.1.1 (fit.binds x old))
           (λ brought. m.2.1.3 x (subst (λ l. Contains l x) (sym named) (Contains-filter (is_in_terms terms) xs x brought ((in_terms terms x).1 term))))
           (Contains-append scope xs x (in_scope x term)) in
-          subst (IsEventAmong now.events.now name) (sym (values_alike w u terms same ∙ m.2.1.2))
-          (subst (λ k. Contains now.events.now (record { name = k; args = m.0.args })) m.2.0 m.1)
+          subst (IsEventAmong all name) (sym (values_alike w u terms same ∙ m.2.1.2))
+          (subst (λ k. Contains all (record { name = k; args = m.0.args })) m.2.0 m.1)
 
       abbrev keeps_row : Bool
-      keeps_row = is_among now.events.now name (values_of_terms w terms)
+      keeps_row = is_among all name (values_of_terms w terms)
 
       decides : Decides keeps_row (IsThere w)
-      decides = among_Decides now.events.now name (values_of_terms w terms)
+      decides = among_Decides all name (values_of_terms w terms)
 
-      by_table : HasValuation t w ↔ (HoldsNow now.ordered.now (tables_of (the_guard now.tables.now n f scope at).0 now.tables.now) w
-          (guard_formula (the_guard now.tables.now n f scope at).0) × HasValuation some w)
-      by_table = evaluated (the_guard now.tables.now n f scope at).0 (the_guard now.tables.now n f scope at).1 w
+      by_table : HasValuation t w ↔ (HoldsNow now.ordered.now (tables_of (the_guard now n f scope at).0 now.tables.now) w
+          (guard_formula (the_guard now n f scope at).0) × HasValuation some w)
+      by_table = evaluated (the_guard now n f scope at).0 (the_guard now n f scope at).1 w
           (row_agrees now n f scope xs at opening new v fit t table columns row long) (row_binds now n f scope xs at opening new v fit t table columns row long)
 
       row_kept : (trace : List Step) → IsNowOf now trace → Contains t.rows row ↔ (HoldsLast trace w f × IsThere w)
@@ -190,7 +197,7 @@ module _ (now : Now) (n : ℕ) (f : Formula) (scope xs : List VarId) (at : IsGua
           )
 
     abbrev keeps : List Value → Bool
-    keeps row = is_among now.events.now name (values_of_terms (with_values xs row v) terms)
+    keeps row = is_among all name (values_of_terms (with_values xs row v) terms)
 
     kept_rows : (trace : List Step) → IsNowOf now trace → (rows : List (List Value)) → AreGuardRows trace v xs f rows → t.rows ≡ filter keeps rows
     kept_rows trace is rows are =
@@ -204,24 +211,25 @@ module _ (now : Now) (n : ℕ) (f : Formula) (scope xs : List VarId) (at : IsGua
         let long = All-contains (λ (r : List Value). length r ≡ length xs) rows row are.fit kept.0 in
         (row_kept row long trace is).1 ((are.are row long).0 kept.0, (decides row long).0 kept.1))
 
-    pub some_tell : MissingExists → CanAskPlan (guards_at now.tables.now) whole v → IsKnownOfGuard now.tables.now n now.ordered.now v t
+    pub some_tell : MissingExists → CanAskPlan (guards_now now) whole v → IsKnownOfGuard now.tables.now n now.ordered.now v t
         → TellMissing now whole body v t
     some_tell exist can_whole known =
         tell (λ g found u agree binds has. ((evaluated g found u agree binds).0 has).0) known
         (λ trace is ls gathered.
-        let all = exist (guards_at now.tables.now) trace whole v can_whole in
-        let rows = all.1.0 in
-        let are = all.1.1 in (
+        let whole_missed = exist (guards_now now) trace whole v can_whole in
+        let rows = whole_missed.1.0 in
+        let are = whole_missed.1.1 in (
           rows,
           are,
           over_kept (Under trace) keeps rows ls
               (λ row there gone.
               let long = All-contains (λ (r : List Value). length r ≡ length xs) rows row are.fit there in
-              let one = exist (guards_at now.tables.now) trace body (with_values xs row v)
+              let one = exist (guards_now now) trace body (with_values xs row v)
               (record { scope = scope ++ xs; can = can; fits = under_row scope xs new v fit row long }) in
               subst (Under trace row)
               (absent_nothing trace body name terms own (with_values xs row v) one.0 one.1
-              (λ among. true≢false (sym ((decides row long).1 (subst (λ (events : List Event). IsEventAmong events name (values_of_terms (with_values xs row v) terms)) is.events among)) ∙ gone)))
+              (λ among. true≢false (sym ((decides row long).1 (among_more now.events.now all more name (values_of_terms (with_values xs row v) terms)
+              (subst (λ (events : List Event). IsEventAmong events name (values_of_terms (with_values xs row v) terms)) is.events among))) ∙ gone)))
               one.1)
               (subst (λ l. Gathers (Under trace) l ls) (kept_rows trace is rows are) gathered),
         ))
@@ -229,14 +237,14 @@ module _ (now : Now) (n : ℕ) (f : Formula) (scope xs : List VarId) (at : IsGua
 -- ---- the rows that are asked of the guard of a plan
 
 module _ (now : Now) (n : ℕ) (f : Formula) (xs : List VarId) (body : Plan) (v : Valuation) (plan : Plan) (is : IsGuardedBy now n f xs body v plan) where
-  can : CanAskPlan (guards_at now.tables.now) (Guarded is.node xs n f body) v
-  can = subst (λ p. CanAskPlan (guards_at now.tables.now) p v) is.is is.can
+  can : CanAskPlan (guards_now now) (Guarded is.node xs n f body) v
+  can = subst (λ p. CanAskPlan (guards_now now) p v) is.is is.can
 
   pub guard_within : n < length now.tables.now.guards
-  guard_within = within now.tables.now n f can.scope can.can.0.0
+  guard_within = within now n f can.scope can.can.0.0
 
   pub guard_binds : BindsBound now.tables.now.guards n v
-  guard_binds = binds_bound now.tables.now n f can.scope can.can.0.0 v can.fits.binds
+  guard_binds = binds_bound now n f can.scope can.can.0.0 v can.fits.binds
 
   pub columns_distinct : (terms : List Term) → HasNoRepeats (filter (is_in_terms terms) xs)
   columns_distinct terms = HasNoRepeats-filter (is_in_terms terms) xs (new_distinct can.scope xs can.can.0.2)
@@ -245,7 +253,7 @@ module _ (now : Now) (n : ℕ) (f : Formula) (xs : List VarId) (body : Plan) (v 
       → HasColumnsOf some now.tables.now.guards n
   columns_within terms some named g found x there =
       let kept = Contains-from_filter (is_in_terms terms) xs x (subst (λ l. Contains l x) named there) in
-      let at = is_guard now.tables.now n f can.scope can.can.0.0 g found in
+      let at = is_guard now n f can.scope can.can.0.0 g found in
       let opens = (can.can.0.1.exact x).0 kept.0 in (
         subst (IsFree x) (sym at.0) opens.0,
         λ bound. opens.1 (subst (λ l. Contains l x) at.1 bound),
@@ -259,12 +267,13 @@ module _ (now : Now) (n : ℕ) (f : Formula) (xs : List VarId) (body : Plan) (v 
 
   pub told_some : MissingExists → (name : NameId) (terms : List Term) → suppressed_alone body ≡ Some (name, terms) → (some : Relation)
       → some.columns ≡ filter (is_in_terms terms) xs
-      → ((u : Valuation) → HasValuation some u ↔ IsMatchOfName now.events.now name terms v some.columns u)
+      → (all : List Event) → ((event : Event) → Contains now.events.now event → Contains all event)
+      → ((u : Valuation) → HasValuation some u ↔ IsMatchOfName all name terms v some.columns u)
       → (t : Relation) → IsTable t → HasOpenColumns now.tables.now n t → AreEvaluatedIn some now.tables.now n now.ordered.now v t
       → IsKnownOfGuard now.tables.now n now.ordered.now v t → TellMissing now plan body v t
-  told_some exist name terms own some named matches t table columns evaluated known =
+  told_some exist name terms own some named all more matches t table columns evaluated known =
       subst (λ p. TellMissing now p body v t) (sym is.is)
-      (some_tell now n f can.scope xs can.can.0.0 can.can.0.1 can.can.0.2 v can.fits is.node body can.can.1 t table columns name terms own some named matches evaluated
+      (some_tell now n f can.scope xs can.can.0.0 can.can.0.1 can.can.0.2 v can.fits is.node body can.can.1 t table columns name terms own some named all more matches evaluated
       exist can known)
 
 -- where all rows are asked

@@ -7,6 +7,7 @@ pub mod DeadlineLaws
 pub mod EmptyGuardLemmas
 pub mod ExistenceLemmas
 pub mod FirstMissingLemmas
+pub mod FreshGuardLemmas
 pub mod GatheredLists
 pub mod GuardedRowLemmas
 pub mod InstanceLeadLemmas
@@ -27,6 +28,7 @@ pub mod PendingLeadLemmas
 pub mod PendingListLemmas
 pub mod PendingOwedLemmas
 pub mod ProgressLemmas
+pub mod PresentEventLemmas
 pub mod ReachWidening
 pub mod RightLiteralLemmas
 pub mod RightValueLemmas

@@ -1,5 +1,5 @@
 -- What a pending instance misses is what a part of its node misses.
-use Rattle.obligations.proofs.Vocabulary.{◌≡◌, ℕ, Bool, false, List, refl, sym, subst, inl, inr, Step, Plan, EventuallyPlan, AlwaysPlan, UntilPlan, NextPlan, CanAskPlan, IsNowOf, guards_at, LacksSome}
+use Rattle.obligations.proofs.Vocabulary.{◌≡◌, ℕ, Bool, false, List, refl, sym, subst, inl, inr, Step, Plan, EventuallyPlan, AlwaysPlan, UntilPlan, NextPlan, CanAskPlan, IsNowOf, guards_now, LacksSome}
 use Rattle.obligations.proofs.Vocabulary.{IsInWindow, IsNowIn, AsksPart, Instance, Now}
 use Rattle.std.specs.Prelude.{IsTrue}
 use Rattle.obligations.proofs.WantedLiteralLemmas.{in_body, in_left, in_right}
@@ -8,7 +8,7 @@ module _ (now : Now) (i : Instance) where
   pub in_window_now : (trace : List Step) → IsNowOf now trace → IsInWindow i now.time → IsNowIn trace i
   in_window_now trace is within = subst (IsInWindow i) (sym is.time) within
 
-  pub asks_eventually : (node place low high : ℕ) (body : Plan) → CanAskPlan (guards_at now.tables.now) (EventuallyPlan node place low high body) i.valuation
+  pub asks_eventually : (node place low high : ℕ) (body : Plan) → CanAskPlan (guards_now now) (EventuallyPlan node place low high body) i.valuation
       → (forced : Bool) → IsTrue forced → AsksPart now (EventuallyPlan node place low high body) i forced body
   asks_eventually node place low high body can forced is_forced = subst (λ b. AsksPart now (EventuallyPlan node place low high body) i b body) (sym is_forced) (record {
     misses = λ trace is literals missing. missing;
@@ -17,7 +17,7 @@ module _ (now : Now) (i : Instance) where
     has = refl;
   })
 
-  pub asks_next : (node place high : ℕ) (body : Plan) → CanAskPlan (guards_at now.tables.now) (NextPlan node place high body) i.valuation
+  pub asks_next : (node place high : ℕ) (body : Plan) → CanAskPlan (guards_now now) (NextPlan node place high body) i.valuation
       → (forced : Bool) → AsksPart now (NextPlan node place high body) i forced body
   asks_next node place high body can forced = record {
     misses = λ trace is literals missing. missing;
@@ -26,7 +26,7 @@ module _ (now : Now) (i : Instance) where
     has = refl;
   }
 
-  pub asks_always : (node place low high : ℕ) (body : Plan) → CanAskPlan (guards_at now.tables.now) (AlwaysPlan node place low high body) i.valuation
+  pub asks_always : (node place low high : ℕ) (body : Plan) → CanAskPlan (guards_now now) (AlwaysPlan node place low high body) i.valuation
       → (forced : Bool) → IsInWindow i now.time → AsksPart now (AlwaysPlan node place low high body) i forced body
   asks_always node place low high body can forced within = record {
     misses = λ trace is literals missing. inl (in_window_now trace is within, missing);
@@ -45,7 +45,7 @@ module _ (now : Now) (i : Instance) where
   pub not_there : (right : Plan) → (IsInWindow i now.time → ⊥) → MissesRight right
   not_there right outside trace is inside = absurd (outside (subst (IsInWindow i) is.time inside))
 
-  pub asks_right : (node place low high : ℕ) (left right : Plan) → CanAskPlan (guards_at now.tables.now) (UntilPlan node place low high left right) i.valuation
+  pub asks_right : (node place low high : ℕ) (left right : Plan) → CanAskPlan (guards_now now) (UntilPlan node place low high left right) i.valuation
       → MissesRight right → (forced : Bool) → IsTrue forced → AsksPart now (UntilPlan node place low high left right) i forced right
   asks_right node place low high left right can missed forced is_forced = subst (λ b. AsksPart now (UntilPlan node place low high left right) i b right) (sym is_forced) (record {
     misses = λ trace is literals missing. inr (missed trace is, missing);
@@ -54,7 +54,7 @@ module _ (now : Now) (i : Instance) where
     has = inr refl;
   })
 
-  pub asks_left : (node place low high : ℕ) (left right : Plan) → CanAskPlan (guards_at now.tables.now) (UntilPlan node place low high left right) i.valuation
+  pub asks_left : (node place low high : ℕ) (left right : Plan) → CanAskPlan (guards_now now) (UntilPlan node place low high left right) i.valuation
       → MissesRight right → (forced : Bool) → forced ≡ false → AsksPart now (UntilPlan node place low high left right) i forced left
   asks_left node place low high left right can missed forced not_forced = subst (λ b. AsksPart now (UntilPlan node place low high left right) i b left) (sym not_forced) (record {
     misses = λ trace is literals missing. inr (missed trace is, missing);

@@ -1,13 +1,13 @@
 -- What an instance of each node becomes, by what is asked of its parts.
 use Rattle.obligations.proofs.Vocabulary.{◌≡◌, ℕ, true, false, Some, inl, inr, refl, subst, false≢true, none-some, same_Some, Plan, CausePlan, SuppressPlan, Both, Either, TestOr, Guarded}
-use Rattle.obligations.proofs.Vocabulary.{EventuallyPlan, AlwaysPlan, UntilPlan, NextPlan, TellsNothing, CanAskPlan, guards_at, WillBecome, awaited_in, IsInWindow, Instance, Now}
+use Rattle.obligations.proofs.Vocabulary.{EventuallyPlan, AlwaysPlan, UntilPlan, NextPlan, TellsNothing, CanAskPlan, guards_now, WillBecome, awaited_in, IsInWindow, Instance, Now}
 use Rattle.obligations.proofs.PartLemmas.{MissesRight, in_window_now}
 use Rattle.obligations.proofs.WantedLiteralLemmas.{in_body, in_left, in_right}
 
 module _ (now : Now) (i : Instance) where
   -- the node can be asked for the instance
   abbrev pub CanAskFor : Plan → Type 0
-  CanAskFor node = CanAskPlan (guards_at now.tables.now) node i.valuation
+  CanAskFor node = CanAskPlan (guards_now now) node i.valuation
 
   pub turns_next : (node place high : ℕ) (body : Plan) → CanAskFor (NextPlan node place high body)
       → WillBecome now (NextPlan node place high body) i false false (Some body)

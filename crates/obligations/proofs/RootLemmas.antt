@@ -1,7 +1,7 @@
 -- What stays in front, and what roots begin, one after another.
 use Rattle.obligations.proofs.Vocabulary.{◌≡◌, Contains, ⊎_elim, ℕ, suc, ◌+◌, ◌<◌, List, [], ◌∷◌, ◌++◌, length, map, take, get_or, Some, refl, sym, ap, subst, arith, ◌∙◌, append_assoc, slice_get}
 use Rattle.obligations.proofs.Vocabulary.{AllByRecursion, append-nil, length-map, length-take-le, map_more, AllByRecursion-append, AllByRecursion-contains, Contains-append, no_values, Step, Plan}
-use Rattle.obligations.proofs.Vocabulary.{StandsIn, AddsAsked, IsBegunHere, IsNowOf, guards_at, Begun, ComesOfRoot, BegunByRoots, CanAskOf, Instance, Now}
+use Rattle.obligations.proofs.Vocabulary.{StandsIn, AddsAsked, IsBegunHere, IsNowOf, guards_now, Begun, ComesOfRoot, BegunByRoots, CanAskOf, Instance, Now}
 
 -- one root more
 roots_more : (trace : List Step) (rule : ℕ) (ps : List Plan) (p : Plan) (xs ys : List Instance) → BegunByRoots trace rule ps xs
@@ -38,11 +38,11 @@ module _ {X : Type 0} (f : X → Plan) (xs : List X) (k : ℕ) (x : X) (within :
         (roots_more trace 0 (map f (take k xs)) (f x) before puts.adds.more (front trace is)
         (subst (λ n. Begun trace n (f x) no_values puts.adds.more) rule_is (puts.adds.are trace is))))
 
-    pub root_asked : (plans : List Plan) → StandsIn plans k (f x) → AllByRecursion (CanAskOf (guards_at now.tables.now) plans) before
-        → AllByRecursion (CanAskOf (guards_at now.tables.now) plans) after
+    pub root_asked : (plans : List Plan) → StandsIn plans k (f x) → AllByRecursion (CanAskOf (guards_now now) plans) before
+        → AllByRecursion (CanAskOf (guards_now now) plans) after
     root_asked plans stands asked =
-        subst (AllByRecursion (CanAskOf (guards_at now.tables.now) plans)) (sym puts.adds.grown)
-        (AllByRecursion-append (CanAskOf (guards_at now.tables.now) plans) before puts.adds.more asked (puts.asked plans stands))
+        subst (AllByRecursion (CanAskOf (guards_now now) plans)) (sym puts.adds.grown)
+        (AllByRecursion-append (CanAskOf (guards_now now) plans) before puts.adds.more asked (puts.asked plans stands))
 
     pub root_comes : (plans : List Plan) → slice_get plans k ≡ Some (f x) → ((j : Instance) → Contains before j → ComesOfRoot now plans j)
         → (j : Instance) → Contains after j → ComesOfRoot now plans j

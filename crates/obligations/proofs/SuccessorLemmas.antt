@@ -1,16 +1,16 @@
 -- What instances become, one after another, and their deadlines.
 use Rattle.obligations.proofs.Vocabulary.{◌≡◌, ◌⊎◌, ◌∙◌, Contains, inl, inr, ⊎_elim, ℕ, Bool, true, false, cond, List, [], ◌∷◌, ◌++◌, Option, Some, None, ap, refl, subst, sym, IfSome, AllByRecursion}
 use Rattle.obligations.proofs.Vocabulary.{none-some, same_Some, AllByRecursion-contains, AllByRecursion-from_contains, Contains-append, first_or_later, none_in_nil, Step, GuardLooksBack, EndsInTime}
-use Rattle.obligations.proofs.Vocabulary.{has_deadline, nodes, Plan, FoundIsFirst, IsNodeByNumber, StandsIn, AddsAsked, IsBegunHere, IsNowOf, guards_at, AreServed, BegunFor, IsInstanceServed}
+use Rattle.obligations.proofs.Vocabulary.{has_deadline, nodes, Plan, FoundIsFirst, IsNodeByNumber, StandsIn, AddsAsked, IsBegunHere, IsNowOf, guards_now, AreServed, BegunFor, IsInstanceServed}
 use Rattle.obligations.proofs.Vocabulary.{WillBecome, is_forced, ComesOf, IsAskedPart, HasPart, After, AtNode, BecomesAt, node_of, PlansStand, CanAskOf, Instance, Now}
 use Rattle.obligations.proofs.TraceLemmas.{stands_found}
 
 -- what was put in an empty list can be asked
 pub all_asked : (now : Now) (rule : ℕ) (plan : Plan) (P : List Step → List Instance → Type 0)
     (before after : List Instance) → before ≡ [] → AddsAsked now rule plan P before after → (plans : List Plan)
-    → StandsIn plans rule plan → AllByRecursion (CanAskOf (guards_at now.tables.now) plans) after
+    → StandsIn plans rule plan → AllByRecursion (CanAskOf (guards_now now) plans) after
 all_asked now rule plan P before after none added plans stands =
-    subst (AllByRecursion (CanAskOf (guards_at now.tables.now) plans))
+    subst (AllByRecursion (CanAskOf (guards_now now) plans))
     (sym (added.adds.grown ∙ ap (λ l. l ++ added.adds.more) none)) (added.asked plans stands)
 
 pub all_begun : (now : Now) (rule : ℕ) (plan : Plan) (P : List Step → List Instance → Type 0)
@@ -21,7 +21,7 @@ all_begun now rule plan P before after none added j there =
     (subst (λ l. Contains l j) (added.adds.grown ∙ ap (λ l. l ++ added.adds.more) none) there)
 
 -- the node of an instance that can be asked
-module _ (now : Now) (plans : List Plan) (inserted : Bool) (i : Instance) (can : CanAskOf (guards_at now.tables.now) plans i)
+module _ (now : Now) (plans : List Plan) (inserted : Bool) (i : Instance) (can : CanAskOf (guards_now now) plans i)
     (node : Plan) (found : node_of plans i ≡ Some node) where
   abbrev forced : Bool
   forced = is_forced inserted now.time i

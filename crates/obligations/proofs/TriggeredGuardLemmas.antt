@@ -2,7 +2,7 @@
 use Rattle.obligations.proofs.Vocabulary.{◌≡◌, ◌⊎◌, ℕ, true, false, Bool, List, [], ◌∷◌, ◌++◌, Option, None, Some, Contains, nat_eq, refl, sym, ap, subst, inl, inr, ⊎_elim, Decides, unsigned_Decides}
 use Rattle.obligations.proofs.Vocabulary.{option_or, false≢true, Contains-append_left, Contains-append_right, Contains-push, list_any-Decides, first_or_later, here, later, none_in_nil, Valuation}
 use Rattle.obligations.proofs.Vocabulary.{values_of_terms, with_values, Event, NameId, VarId, Value, Formula, Atom, And, Or, Exists, Classically, IsEventAmong, AreNewVariables, AreOpen, HoldsNow}
-use Rattle.obligations.proofs.Vocabulary.{tables_beyond, HasOpenColumns, of_each, triggers, IsTable, Relation, FitsScope, IsGuardAt, guards_at, AreMetBy, Now}
+use Rattle.obligations.proofs.Vocabulary.{tables_beyond, HasOpenColumns, of_each, triggers, IsTable, Relation, FitsScope, IsGuardAt, guards_now, AreMetBy, Now}
 use Rattle.obligations.proofs.AskablePlanLemmas.{HoldFor, row_holds}
 
 -- ---- events of some names
@@ -90,7 +90,7 @@ guard_met events tables v test holds = by (triggers test) refl
     by (Some names) is = ⊎_elim (λ met. met) (λ none. absurd (triggered events tables v test names is holds none)) (met_or_not names events)
 
 -- a row of a guard is one for which it holds
-module _ (now : Now) (n : ℕ) (f : Formula) (scope xs : List VarId) (at : IsGuardAt (guards_at now.tables.now) n f scope)
+module _ (now : Now) (n : ℕ) (f : Formula) (scope xs : List VarId) (at : IsGuardAt (guards_now now) n f scope)
     (opening : AreOpen f scope xs) (new : AreNewVariables scope xs) (v : Valuation) (fit : FitsScope scope v) (t : Relation)
     (table : IsTable t) (columns : HasOpenColumns now.tables.now n t)
     (sound : HoldFor now n v t) where

@@ -59,15 +59,17 @@ pub use Rattle.obligations.specs.declared.literals.LiteralKind.{LiteralKind}
 pub use Rattle.obligations.specs.declared.present_step.Now.{Now}
 pub use Rattle.obligations.specs.machine.Additions.{AddsAsked, AddsList, AddsOf, IsBegunHere}
 pub use Rattle.obligations.specs.machine.AskablePlans.{CanAskIn, CanAskNode, CanAskOf, CanAskPlan, CanAskRoot, CanAskRoots, IsGuardAt}
-pub use Rattle.obligations.specs.machine.AskingLaws.{BegunCanBeAsked, CanBeAsked, NowStands, PendCanBeAsked, PendingAfterCanBeAsked, WellFormedCanBeAsked, WellFormedStand}
+pub use Rattle.obligations.specs.machine.AskingLaws.{BegunCanBeAsked, CanBeAsked, FreshInstanceCanBeAsked, FreshPlanCanBeAsked, NowStands, PendCanBeAsked, PendingAfterCanBeAsked, StaleNowStands}
+pub use Rattle.obligations.specs.machine.AskingLaws.{WellFormedCanBeAsked, WellFormedStand}
 pub use Rattle.obligations.specs.machine.Cases.{always_p, at_5, at_once_for, bar_q, begun_at_5, begun_then, bound_to, cause_q_of_x, each_next, each_q, next_for, next_p, p_of_1, q_of_1, q_of_2, soon_p}
 pub use Rattle.obligations.specs.machine.Cases.{then_at, then_for, two_and_one, value_1, value_2, waiting}
 pub use Rattle.obligations.specs.machine.Deadlines.{count_due, deadline_at, is_deadline_at, is_due}
 pub use Rattle.obligations.specs.machine.ExistenceLaws.{AfterExists, BegunExists, MissingExists, MissingOfExists, PendExists, PendingAfterExists}
 pub use Rattle.obligations.specs.machine.FirstMissing.{FirstMissing, FirstOf}
 pub use Rattle.obligations.specs.machine.Leaves.{IsBound, IsLeaf, IsLeafConstant, terms_of}
+pub use Rattle.obligations.specs.machine.FreshGuards.{HaveSameFreshEvents, IgnoresAll, askable, guards_now, looks_for_any, unaskable}
 pub use Rattle.obligations.specs.machine.LossLaws.{SomethingMissedIsLost, time_behind}
-pub use Rattle.obligations.specs.machine.MovedPlans.{AnswersOwn, CanBatch, IgnoresIn, IsUnmoved, IsUnmovedIn, KeepsFalse, KeepsTrue, LeavesRest, LeavesRestIn, SuppressesOwn, SuppressesWith, brings}
+pub use Rattle.obligations.specs.machine.MovedPlans.{AnswersOwn, IgnoresAllOf, IgnoresIn, IsUnmovedOf, IsUnmoved, IsUnmovedIn, KeepsFalse, KeepsTrue, LeavesRest, LeavesRestIn, SuppressesOwn, SuppressesWith, brings}
 pub use Rattle.obligations.specs.machine.MovedPlans.{is_same_name}
 pub use Rattle.obligations.specs.machine.Parts.{AsksPart, AsksPartOrNothing, HasPart, IsAskedPart}
 pub use Rattle.obligations.specs.machine.PlanClasses.{IsPatient, IsPlain, LooksAtNow, PlansStand}
@@ -94,7 +96,7 @@ pub use Rattle.obligations.specs.meaning.Pending.{PendingAfter, PendsBehind, nod
 pub use Rattle.obligations.specs.meaning.PendingBounds.{is_forced}
 pub use Rattle.obligations.specs.meaning.PendingBounds.{CanBePending, IsNext, first_end, second_end}
 pub use Rattle.past_state.specs.declared.guards.PlacedGuard.{PlacedGuard}
-pub use Rattle.past_state.specs.machine.GuardPlaces.{guards_at, placed_guard}
+pub use Rattle.past_state.specs.machine.GuardPlaces.{placed_guard}
 pub use Rattle.past_state.specs.machine.Guards.{AreCopies}
 pub use Rattle.past_state.specs.machine.Past.{AreEvaluated, BindsBound, GuardsWillHold, HasOpenColumns, IsEvaluated, IsGuard, IsTestOf, Past, PastStands, PastTables, guard_formula, tables_of}
 pub use Rattle.past_state.specs.machine.ValueSources.{IsKnownOfGuard}

@@ -4,7 +4,7 @@ use Rattle.obligations.proofs.Vocabulary.{⊎_elim, ◌⊎◌, ◌∙◌, IfSome
 use Rattle.obligations.proofs.Vocabulary.{first_or_later, here, later, none_in_nil, Valuation, onto_values, value_of_term, values_of_terms, with_values, Event, NameId, Term, Var, Const, VarId, Value}
 use Rattle.obligations.proofs.Vocabulary.{as_many_values, Formula, AreNewVariables, AreOpen, IsKnownNow, IsKnownOfGuard, HasOpenColumns, IsGuard, guard_formula, tables_of, PlacedGuard, nodes, Plan}
 use Rattle.obligations.proofs.Vocabulary.{CausePlan, SuppressPlan, Guarded, among_or_not, value_at-with_inside, value_at-with_outside, IsTable, Relation, row_cell, AddsOf, FitsScope, IsBound}
-use Rattle.obligations.proofs.Vocabulary.{IsLeafConstant, IsGuardAt, IsKnownAt, IsWanted, IsWantedUnder, guards_at, LiteralUnless, OfEvent, cause_literal, suppress_literal, IsReachedBy, Literal, Now}
+use Rattle.obligations.proofs.Vocabulary.{IsLeafConstant, IsGuardAt, IsKnownAt, IsWanted, IsWantedUnder, guards_now, LiteralUnless, OfEvent, cause_literal, suppress_literal, IsReachedBy, Literal, Now}
 use Rattle.std.proofs.Common.{◌==◌}
 use Rattle.obligations.proofs.AdditionLemmas.{row_is}
 use Rattle.obligations.proofs.ExistenceLemmas.{present_or_not}
@@ -150,7 +150,7 @@ mapped f [] k x e = absurd (none-some x e)
 mapped f (y ∷ xs) zero x e = subst (λ z. Contains (map f (y ∷ xs)) (f z)) (same_Some y x e) (here (f y) (map f xs))
 mapped f (y ∷ xs) (suc k) x e = later (f x) (f y) (map f xs) (mapped f xs k x e)
 
-module _ (now : Now) (n : ℕ) (f : Formula) (scope xs : List VarId) (at : IsGuardAt (guards_at now.tables.now) n f scope)
+module _ (now : Now) (n : ℕ) (f : Formula) (scope xs : List VarId) (at : IsGuardAt (guards_now now) n f scope)
     (opening : AreOpen f scope xs) (new : AreNewVariables scope xs) (v : Valuation) (fit : FitsScope scope v) (t : Relation)
     (table : IsTable t) (columns : HasOpenColumns now.tables.now n t)
     (sound : HoldFor now n v t)
@@ -172,7 +172,7 @@ module _ (now : Now) (n : ℕ) (f : Formula) (scope xs : List VarId) (at : IsGua
   row_known : (row : List Value) → Contains t.rows row → (value : Value) → IsBound (with_values xs row v) value
       → IsKnownAt now whole v value
   row_known row there value (x, e) =
-      let g = the_guard now.tables.now n f scope at in
+      let g = the_guard now n f scope at in
       ⊎_elim
       (λ brought. told g.0 g.1 value (known g.0 g.1 row there value (cell_value xs row x value
       (sym (value_at-with_inside xs row v x (new_distinct scope xs new) (row_fits now n f scope xs at opening new v fit t table columns row there) brought) ∙ e))))

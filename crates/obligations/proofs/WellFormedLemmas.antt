@@ -117,7 +117,7 @@ module _ (past : Past) (trace : List Step) (now : Now) (ordered : now.ordered.no
     position = last ∙ position;
     time = ap (λ (s : Step). s.time) here_is;
     events = ap (λ (s : Step). s.events) here_is;
-    guards = holds_at;
+    guards = λ number g found ignores v binds. holds_at number g found v binds;
   }
 
 pub now_stands : NowStands

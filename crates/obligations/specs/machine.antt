@@ -11,6 +11,7 @@ pub mod Cases
 pub mod Deadlines
 pub mod ExistenceLaws
 pub mod FirstMissing
+pub mod FreshGuards
 pub mod LossLaws
 pub mod MovedPlans
 pub mod Parts

@@ -10,7 +10,7 @@ ghost use Rattle.valuations.specs.machine.Bindings.{bound_in, filled_from_row};
 ghost use Rattle.obligations.specs.machine.Additions.{AddsAsked};
 ghost use Rattle.obligations.specs.machine.PresentStep.{begun_at_now, IsNowOf};
 ghost use Rattle.obligations.specs.machine.AskablePlans.{CanAskPlan, CanAskOf};
-ghost use Rattle.past_state.specs.machine.GuardPlaces.{guards_at};
+ghost use Rattle.obligations.specs.machine.FreshGuards.{guards_now};
 ghost use Rattle.obligations.specs.meaning.Obligations.{Begun, Gathers};
 ghost use Rattle.obligations.specs.declared.present_step.TheConstants.{MOST_TIME};
 ghost use Rattle.enf_data.specs.declared.steps.Step.{Step};
@@ -37,7 +37,7 @@ pub fn begin_behind<'a>(
     now: &Now<'_>,
     into: &mut Vec<Instance>,
 ) -> Result<(), NoMemory>
-    requires asked { CanAskPlan (guards_at now.now.tables.now) (plan_of plan.now) (bound_in v.now) }
+    requires asked { CanAskPlan (guards_now now.now) (plan_of plan.now) (bound_in v.now) }
     requires ends { AllByRecursion EndsInTime (nodes (plan_of plan.now)) }
     requires in_time { now.now.time ≤ MOST_TIME }
     ensures { OnOk result (AddsAsked now.now rule (plan_of plan.now)
@@ -79,7 +79,7 @@ fn begin_later<'a>(
     now: &Now<'_>,
     into: &mut Vec<Instance>,
 ) -> Result<(), NoMemory>
-    requires asked { CanAskPlan (guards_at now.now.tables.now) (plan_of plan.now) (bound_in v.now) }
+    requires asked { CanAskPlan (guards_now now.now) (plan_of plan.now) (bound_in v.now) }
     requires ends { AllByRecursion EndsInTime (nodes (plan_of plan.now)) }
     requires in_time { now.now.time ≤ MOST_TIME }
     requires future { is_future (plan_of plan.now) ≡ true }
@@ -144,7 +144,7 @@ fn begin_under<'a>(
     now: &Now<'_>,
     into: &mut Vec<Instance>,
 ) -> Result<(), NoMemory>
-    requires asked { (row : List AnyValue) → Contains rows.now.rows row → CanAskPlan (guards_at now.now.tables.now)
+    requires asked { (row : List AnyValue) → Contains rows.now.rows row → CanAskPlan (guards_now now.now)
         (plan_of body.now) (filled_from_row (bound_in v.now) rows.now.columns row) }
     requires ends { AllByRecursion EndsInTime (nodes (plan_of body.now)) }
     requires in_time { now.now.time ≤ MOST_TIME }
@@ -195,13 +195,13 @@ pub fn take(
     v: &Valuation,
     now: &Now<'_>,
 ) -> Result<Vec<Instance>, NoMemory>
-    requires asked { CanAskPlan (guards_at now.now.tables.now) (plan_of plan.now) v.now }
+    requires asked { CanAskPlan (guards_now now.now) (plan_of plan.now) v.now }
     requires ends { AllByRecursion EndsInTime (nodes (plan_of plan.now)) }
     requires in_time { now.now.time ≤ MOST_TIME }
     ensures begun { IfOk result (λ begun. (trace : List Step) → IsNowOf now.now trace
         → Begun trace rule (plan_of plan.now) v.now begun.items) }
     ensures asked { IfOk result (λ begun. (plans : List Tree) → StandsIn plans rule (plan_of plan.now)
-        → AllByRecursion (CanAskOf (guards_at now.now.tables.now) plans) begun.items) }
+        → AllByRecursion (CanAskOf (guards_now now.now) plans) begun.items) }
 {
     let mut begun = Vec::new(alloc);
     begin_behind(alloc, rule, plan, &Frame::Whole(v), now, &mut begun)?;

@@ -42,8 +42,8 @@ pub fn rows_to_ask<'t>(
     };
     missing_exists();
     let columns = variables_of(alloc, vars.as_slice(), terms)?;
-    let events = now.events.as_slice();
-    let within = table_of_events(alloc, events, name, terms, &*v, columns)?;
+    // Under a row whose event is gone the body misses nothing.
+    let within = table_of_events(alloc, now.events.all(), name, terms, v, columns)?;
     let rows = now.tables.rows_in(alloc, guard, now.ordered, &*v, &within)?;
     Ok(Rows::of(rows))
 }

@@ -10,6 +10,7 @@ ghost use Rattle.obligations.specs.machine.ExistenceLaws.{AfterExists, BegunExis
 ghost use Rattle.obligations.specs.machine.ExistenceLaws.{MissingOfExists, PendExists};
 ghost use Rattle.obligations.specs.machine.AskingLaws.{BegunCanBeAsked, PendingAfterCanBeAsked, PendCanBeAsked};
 ghost use Rattle.obligations.specs.machine.AskingLaws.{CanBeAsked, NowStands, WellFormedCanBeAsked, WellFormedStand};
+ghost use Rattle.obligations.specs.machine.AskingLaws.{FreshInstanceCanBeAsked, FreshPlanCanBeAsked, StaleNowStands};
 ghost use Rattle.obligations.specs.machine.UniquenessLaws.{MissingIsOne, AfterIsOne, BegunIsOne, MissingOfIsOne};
 ghost use Rattle.obligations.specs.machine.UniquenessLaws.{PendIsOne, RowsAreOne};
 ghost use Rattle.obligations.specs.machine.TriggerLaws.{BegunIsNamed, BegunIsReached, MissedIsReached, ReachedIsInside};
@@ -151,6 +152,19 @@ pub fn well_formed_can_be_asked()
 /// A step with the tables of a past that stands for a trace stands for the trace with the step.
 pub fn now_stands()
     ensures { NowStands }
+{}
+
+/// So does one with the tables of other events, which differ in stale names and in such as no guard looks for.
+pub fn stale_now_stands()
+    ensures { StaleNowStands }
+{
+    laws::dependence();
+}
+
+/// What can be asked with all guards can be asked where names are stale, if none of its own guards looks for one.
+pub fn fresh_can_be_asked()
+    ensures plans { FreshPlanCanBeAsked }
+    ensures instances { FreshInstanceCanBeAsked }
 {}
 
 /// What missed nothing misses nothing after an action on a name where no leaf of it wants the contrary, each of its

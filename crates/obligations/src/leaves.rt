@@ -11,8 +11,8 @@ ghost use Rattle.obligations.specs.meaning.Obligations.{LiteralUnless, OfEvent, 
 ghost use Rattle.obligations.specs.declared.literals.Literal.{Literal as AnyLiteral};
 
 use crate::literals::{Literal, LiteralKind};
+use crate::present_events::PresentEvents;
 use enf_data::Event;
-use enf_data::event_sets::EventSet;
 use enf_data::events::NameId;
 use enf_data::memory::NoMemory;
 use enf_data::terms::{Term, Terms};
@@ -41,17 +41,19 @@ pub fn is_there(
     name: NameId,
     terms: &Terms,
     v: &Frame<'_>,
-    events: &EventSet,
+    events: &PresentEvents<'_>,
 ) -> Result<bool, NoMemory>
     requires { (x : AnyVariable) → Contains terms.now (Variable x)
         → IsSome (value_at (bound_in v.now) x) }
     ensures { IfOk result (λ there. IsTrue there
         ↔ IsEventAmong events.now name (values_of_terms (bound_in v.now) terms.now)) }
 {
-    if events.len() <= MOST_LOOKED_OVER {
-        return Ok(is_among(events.as_slice(), name, terms.as_slice(), v));
+    match events.listed() {
+        Some(few) if few.len() <= MOST_LOOKED_OVER => {
+            Ok(is_among(few, name, terms.as_slice(), v))
+        }
+        _ => is_in_set(alloc, name, terms, v, events),
     }
-    is_in_set(alloc, name, terms, v, events)
 }
 
 // Whether the event that a leaf speaks of is one of many, by a look into their table.
@@ -60,7 +62,7 @@ fn is_in_set(
     name: NameId,
     terms: &Terms,
     v: &Frame<'_>,
-    events: &EventSet,
+    events: &PresentEvents<'_>,
 ) -> Result<bool, NoMemory>
     requires { (x : AnyVariable) → Contains terms.now (Variable x)
         → IsSome (value_at (bound_in v.now) x) }
@@ -106,7 +108,7 @@ pub fn cause_missing(
     name: NameId,
     terms: &Terms,
     v: &Frame<'_>,
-    events: &EventSet,
+    events: &PresentEvents<'_>,
 ) -> Result<Option<Literal>, NoMemory>
     requires { (x : AnyVariable) → Contains terms.now (Variable x)
         → IsSome (value_at (bound_in v.now) x) }
@@ -131,7 +133,7 @@ pub fn suppress_missing(
     name: NameId,
     terms: &Terms,
     v: &Frame<'_>,
-    events: &EventSet,
+    events: &PresentEvents<'_>,
 ) -> Result<Option<Literal>, NoMemory>
     requires { (x : AnyVariable) → Contains terms.now (Variable x)
         → IsSome (value_at (bound_in v.now) x) }
@@ -157,7 +159,7 @@ pub fn push_cause(
     name: NameId,
     terms: &Terms,
     v: &Frame<'_>,
-    events: &EventSet,
+    events: &PresentEvents<'_>,
     out: &mut Vec<Literal>,
 ) -> Result<(), NoMemory>
     requires { (x : AnyVariable) → Contains terms.now (Variable x)
@@ -179,7 +181,7 @@ pub fn push_suppress(
     name: NameId,
     terms: &Terms,
     v: &Frame<'_>,
-    events: &EventSet,
+    events: &PresentEvents<'_>,
     out: &mut Vec<Literal>,
 ) -> Result<(), NoMemory>
     requires { (x : AnyVariable) → Contains terms.now (Variable x)

@@ -6,7 +6,7 @@ ghost use Rattle.valuations.specs.machine.Bindings.{bound_in, filled_from_row};
 ghost use Rattle.obligations.specs.machine.Additions.{AddsList, AddsOf};
 ghost use Rattle.obligations.specs.machine.AskablePlans.{CanAskPlan};
 ghost use Rattle.obligations.specs.machine.WantedLiterals.{IsWanted, IsWantedUnder};
-ghost use Rattle.past_state.specs.machine.GuardPlaces.{guards_at};
+ghost use Rattle.obligations.specs.machine.FreshGuards.{guards_now};
 ghost use Rattle.obligations.specs.meaning.Obligations.{Missing, Gathers};
 
 use crate::guarded_rows::rows_to_ask;
@@ -29,7 +29,7 @@ pub fn push_missing<'a>(
     now: &Now<'_>,
     out: &mut Vec<Literal>,
 ) -> Result<(), NoMemory>
-    requires { CanAskPlan (guards_at now.now.tables.now) (plan_of plan.now) (bound_in v.now) }
+    requires { CanAskPlan (guards_now now.now) (plan_of plan.now) (bound_in v.now) }
     ensures listed { OnOk result (AddsList now.now (λ trace. Missing trace (plan_of plan.now) (bound_in v.now))
         out.old.items out.new.items) }
     ensures wanted { OnOk result (AddsOf (IsWanted now.now (plan_of plan.now) (bound_in v.now))
@@ -105,7 +105,7 @@ fn push_under<'a>(
     now: &Now<'_>,
     out: &mut Vec<Literal>,
 ) -> Result<(), NoMemory>
-    requires { (row : List AnyValue) → Contains rows.now.rows row → CanAskPlan (guards_at now.now.tables.now)
+    requires { (row : List AnyValue) → Contains rows.now.rows row → CanAskPlan (guards_now now.now)
         (plan_of body.now) (filled_from_row (bound_in v.now) rows.now.columns row) }
     ensures listed { OnOk result (AddsList now.now (λ trace. Gathers (λ row. Missing trace (plan_of body.now)
         (filled_from_row (bound_in v.now) rows.now.columns row)) rows.now.rows) out.old.items out.new.items) }

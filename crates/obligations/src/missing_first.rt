@@ -7,7 +7,7 @@ ghost use Rattle.valuations.specs.machine.Bindings.{bound_in, filled_from_row};
 ghost use Rattle.obligations.specs.machine.PresentStep.{TellsNothing, IsNowOf};
 ghost use Rattle.obligations.specs.machine.AskablePlans.{CanAskPlan};
 ghost use Rattle.obligations.specs.machine.WantedLiterals.{IsWanted, IsWantedUnder};
-ghost use Rattle.past_state.specs.machine.GuardPlaces.{guards_at};
+ghost use Rattle.obligations.specs.machine.FreshGuards.{guards_now};
 ghost use Rattle.obligations.specs.meaning.Obligations.{Missing, Gathers};
 ghost use Rattle.obligations.specs.machine.FirstMissing.{FirstMissing, FirstOf};
 
@@ -30,7 +30,7 @@ pub fn find_missing<'a>(
     v: &'a Frame<'a>,
     now: &Now<'_>,
 ) -> Result<Option<Literal>, NoMemory>
-    requires { CanAskPlan (guards_at now.now.tables.now) (plan_of plan.now) (bound_in v.now) }
+    requires { CanAskPlan (guards_now now.now) (plan_of plan.now) (bound_in v.now) }
     ensures first { IfOk result (λ found. (trace : List Step) → IsNowOf now.now trace
         → FirstMissing trace (plan_of plan.now) (bound_in v.now) found) }
     ensures wanted { IfOk result (λ found. IfSome found
@@ -108,7 +108,7 @@ fn find_under<'a>(
     v: &'a Frame<'a>,
     now: &Now<'_>,
 ) -> Result<Option<Literal>, NoMemory>
-    requires { (row : List AnyValue) → Contains rows.now.rows row → CanAskPlan (guards_at now.now.tables.now)
+    requires { (row : List AnyValue) → Contains rows.now.rows row → CanAskPlan (guards_now now.now)
         (plan_of body.now) (filled_from_row (bound_in v.now) rows.now.columns row) }
     ensures first { IfOk result (λ found. (trace : List Step) → IsNowOf now.now trace
         → FirstOf (Gathers (λ row. Missing trace (plan_of body.now)
@@ -134,7 +134,7 @@ pub fn misses_nothing<'a>(
     v: &'a Frame<'a>,
     now: &Now<'_>,
 ) -> Result<bool, NoMemory>
-    requires { CanAskPlan (guards_at now.now.tables.now) (plan_of plan.now) (bound_in v.now) }
+    requires { CanAskPlan (guards_now now.now) (plan_of plan.now) (bound_in v.now) }
     ensures { IfOk result (TellsNothing now.now (plan_of plan.now) (bound_in v.now)) }
 {
     match plan {

@@ -6,7 +6,7 @@ ghost use Rattle.valuations.specs.machine.Bindings.{bound_in};
 ghost use Rattle.obligations.specs.machine.AskablePlans.{CanAskPlan, CanAskOf};
 ghost use Rattle.obligations.specs.machine.PresentStep.{IsNowOf};
 ghost use Rattle.obligations.specs.machine.WantedLiterals.{IsWanted, IsWantedOf};
-ghost use Rattle.past_state.specs.machine.GuardPlaces.{guards_at};
+ghost use Rattle.obligations.specs.machine.FreshGuards.{guards_now};
 ghost use Rattle.obligations.specs.meaning.Obligations.{Missing};
 ghost use Rattle.obligations.specs.meaning.Pending.{MissingOf};
 ghost use Rattle.obligations.specs.machine.FirstMissing.{FirstMissing, FirstMissingOf};
@@ -33,7 +33,7 @@ pub fn first_missing(
     v: &Frame<'_>,
     now: &Now<'_>,
 ) -> Result<Option<Literal>, NoMemory>
-    requires { CanAskPlan (guards_at now.now.tables.now) (plan_of plan.now) (bound_in v.now) }
+    requires { CanAskPlan (guards_now now.now) (plan_of plan.now) (bound_in v.now) }
     ensures first { IfOk result (λ found. (trace : List Step) → IsNowOf now.now trace
         → FirstMissing trace (plan_of plan.now) (bound_in v.now) found) }
     ensures wanted { IfOk result (λ found. IfSome found
@@ -53,7 +53,7 @@ pub fn lack(
     v: &Valuation,
     now: &Now<'_>,
 ) -> Result<Vec<Literal>, NoMemory>
-    requires { CanAskPlan (guards_at now.now.tables.now) (plan_of plan.now) v.now }
+    requires { CanAskPlan (guards_now now.now) (plan_of plan.now) v.now }
     ensures missing { IfOk result (λ literals. (trace : List Step) → IsNowOf now.now trace
         → Missing trace (plan_of plan.now) v.now literals.items) }
     ensures wanted { IfOk result (λ literals. (literal : AnyLiteral) → Contains literals.items literal
@@ -77,7 +77,7 @@ pub fn first_missing_of(
     now: &Now<'_>,
     forced: bool,
 ) -> Result<Option<Literal>, NoMemory>
-    requires { CanAskOf (guards_at now.now.tables.now) (map plan_of plans.now) instance.now }
+    requires { CanAskOf (guards_now now.now) (map plan_of plans.now) instance.now }
     ensures first { IfOk result (λ found. (trace : List Step) → IsNowOf now.now trace
         → FirstMissingOf (map plan_of plans.now) trace instance.now forced found) }
     ensures wanted { IfOk result (λ found. IfSome found
@@ -100,7 +100,7 @@ pub fn lack_pending(
     now: &Now<'_>,
     forced: bool,
 ) -> Result<Vec<Literal>, NoMemory>
-    requires { CanAskOf (guards_at now.now.tables.now) (map plan_of plans.now) instance.now }
+    requires { CanAskOf (guards_now now.now) (map plan_of plans.now) instance.now }
     ensures { IfOk result (λ literals. (trace : List Step) → IsNowOf now.now trace
         → MissingOf (map plan_of plans.now) trace instance.now forced literals.items) }
 {

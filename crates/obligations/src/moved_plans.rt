@@ -1,17 +1,19 @@
 //! What an action on a name can move of a plan.
-ghost use Rattle.std.specs.Prelude.{◌≡◌, ◌⊎◌, IsTrue, map, IfSome};
-ghost use Rattle.std.specs.List.{AllByRecursion, list_any};
+ghost use Rattle.std.specs.Prelude.{◌≡◌, ◌⊎◌, ◌<◌, IsTrue, false, length, map};
+ghost use Rattle.std.specs.List.{list_any};
 ghost use Rattle.enf_formula.specs.machine.Agreement.{names_in_formula};
 ghost use Rattle.enf_formula.specs.machine.FormulaViews.{tree_of};
 ghost use Rattle.plan_terms.specs.machine.StoredPlans.{plan_of};
-ghost use Rattle.obligations.specs.machine.MovedPlans.{AnswersOwn, CanBatch, IgnoresIn, IsUnmovedIn, KeepsFalse};
+ghost use Rattle.obligations.specs.machine.MovedPlans.{AnswersOwn, IgnoresIn, IsUnmovedIn, KeepsFalse};
 ghost use Rattle.obligations.specs.machine.MovedPlans.{KeepsTrue, LeavesRestIn, SuppressesOwn, SuppressesWith};
-ghost use Rattle.obligations.specs.machine.MovedPlans.{is_same_name};
+ghost use Rattle.obligations.specs.machine.MovedPlans.{IgnoresAllOf, IsUnmovedOf, is_same_name};
 ghost use Rattle.obligations.specs.machine.UnreadNames.{Ignores};
 ghost use Rattle.obligations.specs.declared.literals.LiteralKind.TheVariants as of_kind;
 
 use crate::guarded_rows::suppressed;
+use crate::instances::Instance;
 use crate::literals::LiteralKind;
+use crate::pending_parts::node_in;
 use enf_data::events::NameId;
 use enf_data::terms::Term;
 use enf_formula::Formula;
@@ -126,6 +128,35 @@ pub fn ignores(plan: &Plan, name: NameId) -> bool
     }
 }
 
+/// Whether no guard or test of the node of an instance looks for one of the names.
+pub fn ignores_all(plans: &[Plan], instance: &Instance, names: &[NameId]) -> bool
+    ensures ignores { IsTrue result → IgnoresAllOf (map plan_of plans.now) names.now instance.now }
+    ensures some { result ≡ false → 0 < length names.now }
+{
+    if names.is_empty() {
+        return true;
+    }
+    let Some(node) = node_in(plans, instance) else {
+        return true;
+    };
+    for name in names {
+        if !ignores(node, *name) {
+            return false;
+        }
+    }
+    true
+}
+
+/// Whether an instance that misses nothing misses nothing after an action on the name, told by its node.
+pub fn stays_met(plans: &[Plan], instance: &Instance, kind: LiteralKind, name: NameId) -> bool
+    ensures { IsTrue result → IsUnmovedOf (map plan_of plans.now) kind name instance.now }
+{
+    match node_in(plans, instance) {
+        Some(node) => is_unmoved(node, kind, name),
+        None => true,
+    }
+}
+
 // Whether the conjunction looks for the name in one atom alone, which has these terms.
 fn answers_own(formula: &Formula, name: NameId, terms: &[Term]) -> bool
     ensures { IsTrue result → AnswersOwn name terms.now (tree_of formula.now) }
@@ -205,34 +236,4 @@ pub fn leaves_rest(plan: &Plan, kind: LiteralKind, name: NameId) -> bool
             leaves_rest(left, kind, name) && leaves_rest(right, kind, name)
         }
     }
-}
-
-// Whether each of the plans misses nothing more where events of the name go.
-fn are_unmoved(plans: &[Plan], name: NameId) -> bool
-    ensures { IsTrue result → AllByRecursion (IsUnmovedIn of_kind.Suppress name) (map plan_of plans.now) }
-{
-    for plan in plans {
-        if !is_unmoved(plan, LiteralKind::Suppress, name) {
-            return false;
-        }
-    }
-    true
-}
-
-/// The name of which all that a plan suppresses can be taken out at once, if there is such: it misses the rest of what
-/// it missed, and the plans miss nothing more.
-pub fn batch_name(plans: &[Plan], plan: &Plan) -> Option<NameId>
-    ensures { IfSome result (λ name. CanBatch (map plan_of plans.now) name (plan_of plan.now)) }
-{
-    let Plan::Guarded { body, .. } = plan else {
-        return None;
-    };
-    let (name, _) = suppressed(body)?;
-    if !leaves_rest(plan, LiteralKind::Suppress, name) {
-        return None;
-    }
-    if !are_unmoved(plans, name) {
-        return None;
-    }
-    Some(name)
 }

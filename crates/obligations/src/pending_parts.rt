@@ -4,7 +4,7 @@ ghost use Rattle.std.specs.Option.{option_copied, option_map};
 ghost use Rattle.plan_terms.specs.meaning.Plans.{is_future};
 ghost use Rattle.plan_terms.specs.machine.StoredPlans.{plan_of};
 ghost use Rattle.obligations.specs.machine.AskablePlans.{CanAskPlan};
-ghost use Rattle.past_state.specs.machine.GuardPlaces.{guards_at};
+ghost use Rattle.obligations.specs.machine.FreshGuards.{guards_now};
 ghost use Rattle.obligations.specs.meaning.Pending.{IsInWindow, node_of};
 ghost use Rattle.obligations.specs.meaning.PendingBounds.{is_forced};
 ghost use Rattle.obligations.specs.machine.Parts.{AsksPartOrNothing};
@@ -35,7 +35,7 @@ pub fn part_asked<'a>(
     now: &Now<'_>,
     forced: bool,
 ) -> Result<Option<&'a Plan>, NoMemory>
-    requires can { CanAskPlan (guards_at now.now.tables.now) (plan_of node.now) instance.now.valuation }
+    requires can { CanAskPlan (guards_now now.now) (plan_of node.now) instance.now.valuation }
     requires future { is_future (plan_of node.now) ≡ true }
     ensures { IfOk result (λ part. AsksPartOrNothing now.now (plan_of node.now) instance.now forced
         (option_map plan_of (option_copied part))) }

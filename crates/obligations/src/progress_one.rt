@@ -12,7 +12,7 @@ ghost use Rattle.valuations.specs.machine.Bindings.{bound_in};
 ghost use Rattle.obligations.specs.machine.Additions.{AddsAsked, IsBegunHere};
 ghost use Rattle.obligations.specs.machine.AskablePlans.{CanAskPlan, CanAskOf, CanAskRoots};
 ghost use Rattle.obligations.specs.machine.PresentStep.{IsNowOf};
-ghost use Rattle.past_state.specs.machine.GuardPlaces.{guards_at};
+ghost use Rattle.obligations.specs.machine.FreshGuards.{guards_now};
 ghost use Rattle.obligations.specs.meaning.Obligations.{Begun};
 ghost use Rattle.obligations.specs.machine.Progress.{BegunFor, WillBecome, awaited_in, BecomesOne};
 ghost use Rattle.obligations.specs.declared.instances.Instance.{Instance as AnyInstance};
@@ -51,7 +51,7 @@ pub fn becoming_of<'a>(
     now: &Now<'_>,
     inserted: bool,
 ) -> Result<Becoming<'a>, NoMemory>
-    requires can { CanAskPlan (guards_at now.now.tables.now) (plan_of node.now) instance.now.valuation }
+    requires can { CanAskPlan (guards_now now.now) (plan_of node.now) instance.now.valuation }
     requires future { is_future (plan_of node.now) ≡ true }
     ensures { IfOk result (λ b. WillBecome now.now (plan_of node.now) instance.now
         (is_forced inserted now.now.time instance.now) b.stays (option_map plan_of (option_copied b.begins))) }
@@ -85,7 +85,7 @@ fn becoming_waiting<'a>(
     instance: &Instance,
     now: &Now<'_>,
 ) -> Result<Becoming<'a>, NoMemory>
-    requires can { CanAskPlan (guards_at now.now.tables.now) (plan_of node.now) instance.now.valuation }
+    requires can { CanAskPlan (guards_now now.now) (plan_of node.now) instance.now.valuation }
     requires future { is_future (plan_of node.now) ≡ true }
     ensures { IfOk result (λ b. WillBecome now.now (plan_of node.now) instance.now false b.stays
         (option_map plan_of (option_copied b.begins))) }
@@ -150,7 +150,7 @@ pub fn begin_ahead<'a>(
     now: &Now<'_>,
     into: &mut Vec<Instance>,
 ) -> Result<(), NoMemory>
-    requires asked { CanAskPlan (guards_at now.now.tables.now) (plan_of plan.now) (bound_in v.now) }
+    requires asked { CanAskPlan (guards_now now.now) (plan_of plan.now) (bound_in v.now) }
     requires ends { AllByRecursion EndsInTime (nodes (plan_of plan.now)) }
     requires in_time { now.now.time ≤ MOST_TIME }
     ensures { OnOk result (AddsAsked now.now rule (plan_of plan.now)
@@ -174,14 +174,14 @@ pub fn begun_for(
     now: &Now<'_>,
 ) -> Result<Vec<Instance>, NoMemory>
     requires can { IfSome (option_map plan_of (option_copied part))
-        (λ p. CanAskPlan (guards_at now.now.tables.now) p instance.now.valuation) }
+        (λ p. CanAskPlan (guards_now now.now) p instance.now.valuation) }
     requires ends { IfSome (option_map plan_of (option_copied part)) (λ p. AllByRecursion EndsInTime (nodes p)) }
     requires in_time { now.now.time ≤ MOST_TIME }
     ensures begun { IfOk result (λ begun. (trace : List Step) → IsNowOf now.now trace
         → BegunFor trace instance.now (option_map plan_of (option_copied part.entry)) begun.items) }
     ensures asked { IfOk result (λ begun. (plans : List Tree)
         → IfSome (option_map plan_of (option_copied part.entry)) (StandsIn plans instance.now.rule)
-        → AllByRecursion (CanAskOf (guards_at now.now.tables.now) plans) begun.items) }
+        → AllByRecursion (CanAskOf (guards_now now.now) plans) begun.items) }
     ensures comes { IfOk result (λ begun. (j : AnyInstance) → Contains begun.items j
         → (p : Tree) × (option_map plan_of (option_copied part.entry) ≡ Some p)
         × IsBegunHere now.now instance.now.rule p j) }
@@ -210,13 +210,13 @@ pub fn outcome_of(
     inserted: bool,
 ) -> Result<Outcome, NoMemory>
     requires named { PlansStand (map plan_of plans.now) }
-    requires asked { CanAskOf (guards_at now.now.tables.now) (map plan_of plans.now) instance.now }
+    requires asked { CanAskOf (guards_now now.now) (map plan_of plans.now) instance.now }
     requires in_time { now.now.time ≤ MOST_TIME }
     ensures after { IfOk result (λ o. (trace : List Step) → IsNowOf now.now trace
         → BecomesOne (map plan_of plans.now) inserted instance.now trace
         (cond o.stays (instance.now ∷ []) [] ++ o.begun.items)) }
     ensures asked { IfOk result (λ o. AllByRecursion
-        (CanAskOf (guards_at now.now.tables.now) (map plan_of plans.now)) o.begun.items) }
+        (CanAskOf (guards_now now.now) (map plan_of plans.now)) o.begun.items) }
     ensures come { IfOk result (λ o. (j : AnyInstance)
         → Contains (cond o.stays (instance.now ∷ []) [] ++ o.begun.items) j
         → ComesOf now.now (map plan_of plans.now) inserted instance.now j) }
@@ -242,14 +242,14 @@ pub fn begun_by_roots(
     plans: &[Plan],
     now: &Now<'_>,
 ) -> Result<Vec<Instance>, NoMemory>
-    requires roots { CanAskRoots (guards_at now.now.tables.now) (map plan_of plans.now) }
+    requires roots { CanAskRoots (guards_now now.now) (map plan_of plans.now) }
     requires named { PlansStand (map plan_of plans.now) }
     requires few { length plans.now ≤ 2 ^ 32 }
     requires in_time { now.now.time ≤ MOST_TIME }
     ensures begun { IfOk result (λ begun. (trace : List Step) → IsNowOf now.now trace
         → BegunByRoots trace 0 (map plan_of plans.now) begun.items) }
     ensures asked { IfOk result (λ begun. AllByRecursion
-        (CanAskOf (guards_at now.now.tables.now) (map plan_of plans.now)) begun.items) }
+        (CanAskOf (guards_now now.now) (map plan_of plans.now)) begun.items) }
     ensures come { IfOk result (λ begun. (j : AnyInstance) → Contains begun.items j
         → ComesOfRoot now.now (map plan_of plans.now) j) }
 {

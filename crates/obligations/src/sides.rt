@@ -4,7 +4,7 @@ ghost use Rattle.std.specs.Option.{option_copied, option_map};
 ghost use Rattle.plan_terms.specs.machine.StoredPlans.{plan_of};
 ghost use Rattle.valuations.specs.machine.Bindings.{bound_in};
 ghost use Rattle.obligations.specs.machine.AskablePlans.{CanAskPlan};
-ghost use Rattle.past_state.specs.machine.GuardPlaces.{guards_at};
+ghost use Rattle.obligations.specs.machine.FreshGuards.{guards_now};
 ghost use Rattle.obligations.specs.machine.PresentStep.{TakesSide};
 
 use crate::missing_first::misses_nothing;
@@ -23,8 +23,8 @@ pub fn side_taken<'a, 'b>(
     v: &'b Frame<'b>,
     now: &Now<'_>,
 ) -> Result<Option<&'a Plan>, NoMemory>
-    requires left { CanAskPlan (guards_at now.now.tables.now) (plan_of left.now) (bound_in v.now) }
-    requires right { CanAskPlan (guards_at now.now.tables.now) (plan_of right.now) (bound_in v.now) }
+    requires left { CanAskPlan (guards_now now.now) (plan_of left.now) (bound_in v.now) }
+    requires right { CanAskPlan (guards_now now.now) (plan_of right.now) (bound_in v.now) }
     ensures { IfOk result (λ side. TakesSide now.now (plan_of left.now) (plan_of right.now) (bound_in v.now)
         (option_map plan_of (option_copied side))) }
 {

@@ -1,4 +1,6 @@
 pub mod Vocabulary
+pub mod AskingLaws
+pub mod AskingLemmas
 pub mod EntryLemmas
 pub mod EntryStepLemmas
 pub mod MomentLemmas

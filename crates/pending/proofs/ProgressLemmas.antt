@@ -2,7 +2,7 @@
 use Rattle.pending.proofs.Vocabulary.{◌≡◌, ℕ, suc, ◌+◌, ◌-◌, ◌<◌, ◌≤◌, ◌^◌, Bool, true, false, cond, List, [], ◌∷◌, ◌++◌, Contains, ◌⊎◌, inl, inr, ⊎_elim, refl, sym, ap, subst, ◌∙◌, arith, length}
 use Rattle.pending.proofs.Vocabulary.{map, Option, AllByRecursion, append-nil, AllByRecursion-append, AllByRecursion-contains, AllByRecursion-weaker, Contains-append, first_or_later, here, later}
 use Rattle.pending.proofs.Vocabulary.{none_in_nil, Step, Plan, has_deadline, IsAllBut, IsAsleep, entry_places, Place, WasMade, places_from, beginning_at, HasNone, CanPutIn, OutcomeGoesOn, IsInOrder}
-use Rattle.pending.proofs.Vocabulary.{IsOneOr, IsStep, EntryOutcome, PutsInEntries, begun_entries, entries_behind, StepsCanPutIn, StepsGoInOrder, Entry, Beginning, IsNowOf, guards_at, time_now}
+use Rattle.pending.proofs.Vocabulary.{IsOneOr, IsStep, EntryOutcome, PutsInEntries, begun_entries, entries_behind, StepsCanPutIn, StepsGoInOrder, Entry, Beginning, IsNowOf, guards_now, time_now}
 use Rattle.pending.proofs.Vocabulary.{Gathers, AreServed, is_forced, ComesOf, NowLeads, AfterExists, After, AtNode, PendingAfter, node_of, IsBegunUnder, CanAskOf, HasPart, Instance, Now}
 use Rattle.pending.proofs.Vocabulary.{EntryBecomes, CarriesPending, WalksEntries, ArePendingEntries, FitsStep, entries_from, items_of, IsPendingListOf, EarlyStay, IsWaitOf, Listed, PendingList}
 use Rattle.pending.proofs.Vocabulary.{SleepersStay, Wait, all_listed, listed_of, step_moment}
@@ -54,14 +54,14 @@ module _ (now : Now) (plans : List Plan) where
 
   -- so it is with an entry, whose instance can be asked
   abbrev Good : Entry Instance → Type 0
-  Good e = IsWaitOf plans (listed_of e).wait e.item × CanAskOf (guards_at now.tables.now) plans e.item
+  Good e = IsWaitOf plans (listed_of e).wait e.item × CanAskOf (guards_now now) plans e.item
 
-  good_all : (all : List (Entry Instance)) → AllByRecursion WaitsWell (all_listed all) → AllByRecursion (CanAskOf (guards_at now.tables.now) plans) (items_of all)
+  good_all : (all : List (Entry Instance)) → AllByRecursion WaitsWell (all_listed all) → AllByRecursion (CanAskOf (guards_now now) plans) (items_of all)
       → AllByRecursion Good all
   good_all [] waits asked = tt
   good_all (e ∷ all) waits asked = ((waits.0, asked.0), good_all all waits.1 asked.1)
 
-  good_from : (number k : ℕ) (place : Place) (xs : List Instance) → AllByRecursion (CanAskOf (guards_at now.tables.now) plans) xs
+  good_from : (number k : ℕ) (place : Place) (xs : List Instance) → AllByRecursion (CanAskOf (guards_now now) plans) xs
       → AllByRecursion Good (entries_from plans now.time place number k xs)
   good_from number k place [] asked = tt
   good_from number k place (x ∷ xs) asked = ((filed_waits plans now.time x, asked.0), good_from number (suc k) place xs asked.1)
@@ -70,7 +70,7 @@ module _ (now : Now) (plans : List Plan) where
   good_waits [] good = tt
   good_waits (e ∷ all) good = (good.0.0, good_waits all good.1)
 
-  good_asked : (all : List (Entry Instance)) → AllByRecursion Good all → AllByRecursion (CanAskOf (guards_at now.tables.now) plans) (items_of all)
+  good_asked : (all : List (Entry Instance)) → AllByRecursion Good all → AllByRecursion (CanAskOf (guards_now now) plans) (items_of all)
   good_asked [] good = tt
   good_asked (e ∷ all) good = (good.0.1, good_asked all good.1)
 
@@ -79,7 +79,7 @@ module _ (now : Now) (plans : List Plan) where
 module _ (now : Now) (plans : List Plan) (inserted : Bool) (n : ℕ) (all left more : List (Entry Instance)) (small : n < 2 ^ 64 - 1)
     (kept : ArePendingEntries n all) (seen : PendingList) (deadlines : List ℕ)
     (view : record { instances = items_of all; deadlines = deadlines; listed = all_listed all } ≡ seen) (keeps : IsPendingListOf plans seen)
-    (can : AllByRecursion (CanAskOf (guards_at now.tables.now) plans) seen.instances) (carried : CarriesPending now plans inserted n all left more) where
+    (can : AllByRecursion (CanAskOf (guards_now now) plans) seen.instances) (carried : CarriesPending now plans inserted n all left more) where
   abbrev Q : Entry Instance → Type 0
   Q = IsAsleep now.events.now (step_moment inserted now.time)
 
@@ -101,8 +101,8 @@ module _ (now : Now) (plans : List Plan) (inserted : Bool) (n : ℕ) (all left m
   waits : AllByRecursion (WaitsWell now plans) (all_listed all)
   waits = (subst (IsPendingListOf plans) (sym view) keeps).waits
 
-  asked : AllByRecursion (CanAskOf (guards_at now.tables.now) plans) (items_of all)
-  asked = subst (AllByRecursion (CanAskOf (guards_at now.tables.now) plans)) (sym seen_are) can
+  asked : AllByRecursion (CanAskOf (guards_now now) plans) (items_of all)
+  asked = subst (AllByRecursion (CanAskOf (guards_now now) plans)) (sym seen_are) can
 
   looked_all : carried.first ≡ map entry_of walks.outcomes
   looked_all = sym walks.looked_at ∙ append-nil (map entry_of walks.outcomes)
@@ -190,7 +190,7 @@ module _ (now : Now) (plans : List Plan) (inserted : Bool) (n : ℕ) (all left m
     pub waits_behind : AllByRecursion (λ x. IsWaitOf plans x.wait x.instance) (all_listed grown)
     waits_behind = good_waits now plans grown good_grown
 
-    pub asked_behind : AllByRecursion (CanAskOf (guards_at now.tables.now) plans) (items_of grown)
+    pub asked_behind : AllByRecursion (CanAskOf (guards_now now) plans) (items_of grown)
     asked_behind = good_asked now plans grown good_grown
 
     grown_items : items_of grown ≡ items_of (entries_behind order.every) ++ carried.roots
@@ -251,17 +251,17 @@ module _ (now : Now) (plans : List Plan) (inserted : Bool) (n : ℕ) (all left m
       -- an entry that is asleep becomes itself
       itself : (e : Entry Instance) → Good now plans e → Q e → After plans trace e.item (e.item ∷ [])
       itself e good asleep =
-          let found = exists (guards_at now.tables.now) plans trace e.item good.1 in
+          let found = exists (guards_now now) plans trace e.item good.1 in
           let now_is = is.time in
           let none = subst (HasNone asleep.patterns) (sym is.events) asleep.none in
           let within = not_later inserted now.time e.item.high (before_last plans (listed_of e).wait e.item (step_moment inserted now.time) good.0 asleep.in_time) in
           subst (After plans trace e.item) (⊎_elim
-          (λ open_is. stay (guards_at now.tables.now) plans trace e.item good.1
+          (λ open_is. stay (guards_now now) plans trace e.item good.1
           (record { patterns = asleep.patterns; wakes = sym (ap (λ (w : Wait). w.patterns) open_is) ∙ asleep.waits; none = none })
           (not_over (node_of plans e.item) e.item (time_now trace) (omega (arith, within, now_is))) found.0 found.1)
           (λ early_is.
           let before = not_begun inserted now.time e.item (subst (λ (w : Wait). step_moment inserted now.time < w.until) early_is asleep.in_time) in
-          early_stay (guards_at now.tables.now) plans trace e.item good.1 (record {
+          early_stay (guards_now now) plans trace e.item good.1 (record {
             patterns = asleep.patterns;
             wakes = sym (ap (λ (w : Wait). w.patterns) early_is) ∙ asleep.waits;
             none = none;

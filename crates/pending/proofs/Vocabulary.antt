@@ -33,8 +33,8 @@ pub use Rattle.obligations.specs.machine.TriggeredNodes.{IsBegunUnder}
 pub use Rattle.obligations.specs.meaning.Obligations.{AreGuardRows, Begun, Gathers, IfElse, LacksNothing, LiteralUnless, Missing, OfEvent, TakesOrElse, TakesPresent, cause_literal, last_position}
 pub use Rattle.obligations.specs.meaning.Obligations.{suppress_literal, time_now}
 pub use Rattle.obligations.specs.meaning.Pending.{After, AtNode, BecomesAt, IsNowIn, MissesAt, MissingOf, PendingAfter, node_of}
+pub use Rattle.obligations.specs.machine.FreshGuards.{guards_now}
 pub use Rattle.obligations.specs.meaning.PendingBounds.{is_forced}
-pub use Rattle.past_state.specs.machine.GuardPlaces.{guards_at}
 pub use Rattle.pending.specs.machine.EntrySteps.{CarriesPending, EntryBecomes, WalksEntries}
 pub use Rattle.pending.specs.machine.InstancePatterns.{InstanceIsEarly, InstanceSleeps, IsWindowNotOver, early_patterns_at, early_patterns_of, wake_patterns_at, wake_patterns_of}
 pub use Rattle.pending.specs.machine.Laws.{EarlyStay, SleepersStay}

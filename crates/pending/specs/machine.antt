@@ -5,3 +5,4 @@ pub mod PendingEntries
 pub mod EntrySteps
 pub mod Laws
 pub mod PendingLists
+pub mod AskedEntries

@@ -3,6 +3,7 @@
 //! `enf_formula` and `enf_data`.
 #![tactic(auto)]
 
+pub mod asking;
 mod deadlines;
 mod entries;
 pub mod laws;
@@ -10,4 +11,8 @@ mod moments;
 mod pending;
 mod progress_all;
 
+// A crate can name `Asking` in a contract only if the types of its fields are exported.
+#[doc(hidden)]
+pub use asking::AskedOf;
+pub use asking::{Asking, RuleNode};
 pub use pending::Pending;

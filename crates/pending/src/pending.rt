@@ -1,5 +1,5 @@
 //! Lists of pending instances, of which a step looks at those that it wakes.
-ghost use Rattle.std.specs.Prelude.{◌≡◌, ◌+◌, ◌-◌, ◌<◌, ◌≤◌, ◌^◌, IfOk, List, OnOk, []};
+ghost use Rattle.std.specs.Prelude.{◌≡◌, ◌+◌, ◌-◌, ◌<◌, ◌≤◌, ◌^◌, IfOk, IsFalse, List, OnOk, []};
 ghost use Rattle.std.specs.Prelude.{length, map};
 ghost use Rattle.std.specs.List.{AllByRecursion};
 ghost use Rattle.enf_data.specs.declared.steps.Step.{Step};
@@ -7,7 +7,7 @@ ghost use Rattle.plan_terms.specs.meaning.Plans.{Plan as AnyPlan};
 ghost use Rattle.plan_terms.specs.machine.StoredPlans.{plan_of};
 ghost use Rattle.sleepers.specs.machine.Entries.{AllButThose, shown};
 ghost use Rattle.obligations.specs.machine.PresentStep.{IsNowOf};
-ghost use Rattle.past_state.specs.machine.GuardPlaces.{guards_at};
+ghost use Rattle.obligations.specs.machine.FreshGuards.{guards_now};
 ghost use Rattle.obligations.specs.machine.Progress.{AreServed};
 ghost use Rattle.obligations.specs.machine.Successors.{NowLeads};
 ghost use Rattle.obligations.specs.meaning.Pending.{PendingAfter};
@@ -15,10 +15,12 @@ ghost use Rattle.obligations.specs.machine.PlanClasses.{PlansStand};
 ghost use Rattle.obligations.specs.machine.AskablePlans.{CanAskOf, CanAskRoots};
 ghost use Rattle.deadline_queue.specs.machine.Queues.{IsLeastOf};
 ghost use Rattle.obligations.specs.declared.present_step.TheConstants.{MOST_TIME};
+ghost use Rattle.pending.specs.machine.AskedEntries.{BeginsAsking};
 ghost use Rattle.pending.specs.machine.Moments as moments;
-ghost use Rattle.pending.specs.machine.PendingLists.{IsPendingListOf, listed_instances};
-ghost use Rattle.pending.specs.machine.Waits.{Listed, SleepsNow};
+ghost use Rattle.pending.specs.machine.PendingLists.{IsPendingListOf};
+ghost use Rattle.pending.specs.machine.Waits.{SleepsNow};
 
+use crate::asking::Asking;
 use crate::entries::items_in;
 use crate::laws::sleepers_stay;
 use crate::moments::step_moment;
@@ -144,23 +146,29 @@ impl Pending {
         duplicates(alloc, instances.as_slice())
     }
 
-    /// All instances but those that sleep at a step of this time with these events, in order. At the end of its
+    /// Those are still to be asked at a step of this time with these events that do not sleep there. At the end of its
     /// window an instance is awake where the step is inserted.
-    pub fn woken(
+    pub fn asking(
         &self,
         alloc: Global,
         events: &[Event],
         time: u64,
         inserted: bool,
-    ) -> Result<Vec<&Instance>, NoMemory>
-        ensures { IfOk result (λ woken. (awake : List Listed)
-            × AllButThose (SleepsNow events.now (moments.step_moment inserted time)) self.now.listed awake
-            × (shown woken.items ≡ listed_instances awake)) }
+    ) -> Result<Asking<'_>, NoMemory>
+        ensures { IfOk result (BeginsAsking events.now (moments.step_moment inserted time) self.now.listed) }
     {
-        let entries = self
+        let agenda = self
             .sleepers
-            .woken(alloc, events, step_moment(inserted, time))?;
-        items_in(alloc, entries.as_slice())
+            .agenda(alloc, events, step_moment(inserted, time))?;
+        Ok(Asking::of(alloc, &self.sleepers, agenda))
+    }
+
+    /// Whether some may be awake at a step of this time with these events. Else all sleep.
+    pub fn may_wake(&self, events: &[Event], time: u64, inserted: bool) -> bool
+        ensures { IsFalse result
+            → AllButThose (SleepsNow events.now (moments.step_moment inserted time)) self.now.listed [] }
+    {
+        self.sleepers.may_wake(events, step_moment(inserted, time))
     }
 
     /// The least of the deadlines.
@@ -180,9 +188,9 @@ impl Pending {
         now: &Now<'_>,
         inserted: bool,
     ) -> Result<(), NoMemory>
-        requires roots { CanAskRoots (guards_at now.now.tables.now) (map plan_of plans.now) }
+        requires roots { CanAskRoots (guards_now now.now) (map plan_of plans.now) }
         requires named { PlansStand (map plan_of plans.now) }
-        requires instances { AllByRecursion (CanAskOf (guards_at now.now.tables.now) (map plan_of plans.now))
+        requires instances { AllByRecursion (CanAskOf (guards_now now.now) (map plan_of plans.now))
             self.old.instances }
         requires keeps { IsPendingListOf (map plan_of plans.now) self.old }
         requires few { length plans.now ≤ 2 ^ 32 }
@@ -194,7 +202,7 @@ impl Pending {
             self.old.instances self.new.instances) }
         ensures keeps { OnOk result (IsPendingListOf (map plan_of plans.now) self.new) }
         ensures instances { OnOk result (AllByRecursion
-            (CanAskOf (guards_at now.now.tables.now) (map plan_of plans.now)) self.new.instances) }
+            (CanAskOf (guards_now now.now) (map plan_of plans.now)) self.new.instances) }
     {
         sleepers_stay();
         pending_exists();

@@ -8,7 +8,7 @@ ghost use Rattle.obligations.specs.machine.Successors.{ComesOf};
 ghost use Rattle.std.specs.List.{AllByRecursion};
 ghost use Rattle.deadline_queue.specs.machine.Queues.{IsDeadlineQueue, held_count};
 ghost use Rattle.plan_terms.specs.machine.StoredPlans.{plan_of};
-ghost use Rattle.past_state.specs.machine.GuardPlaces.{guards_at};
+ghost use Rattle.obligations.specs.machine.FreshGuards.{guards_now};
 ghost use Rattle.obligations.specs.machine.PlanClasses.{PlansStand};
 ghost use Rattle.obligations.specs.machine.AskablePlans.{CanAskOf, CanAskRoots};
 ghost use Rattle.obligations.specs.machine.Deadlines.{count_due};
@@ -29,7 +29,7 @@ use enf_data::items::Duplicate;
 use enf_data::memory::NoMemory;
 use obligations::instances::Instances;
 use obligations::progress_one::{Outcome, begun_by_roots, outcome_of};
-use obligations::{Instance, Now};
+use obligations::{Instance, Now, PresentEvents};
 use plan_terms::Plan;
 use sleepers::{Beginning, Entry, Sleepers};
 use std::alloc::Global;
@@ -45,9 +45,9 @@ pub fn carry(
     sleepers: &mut Sleepers<Instance>,
     deadlines: &mut DeadlineQueue,
 ) -> Result<Vec<Entry<Instance>>, NoMemory>
-    requires roots { CanAskRoots (guards_at now.now.tables.now) (map plan_of plans.now) }
+    requires roots { CanAskRoots (guards_now now.now) (map plan_of plans.now) }
     requires named { PlansStand (map plan_of plans.now) }
-    requires asked { AllByRecursion (CanAskOf (guards_at now.now.tables.now) (map plan_of plans.now))
+    requires asked { AllByRecursion (CanAskOf (guards_now now.now) (map plan_of plans.now))
         (items_of sleepers.old.entries) }
     requires few { length plans.now ≤ 2 ^ 32 }
     requires in_time { now.now.time ≤ MOST_TIME }
@@ -88,7 +88,7 @@ fn carry_awake(
     deadlines: &mut DeadlineQueue,
 ) -> Result<Vec<Entry<Instance>>, NoMemory>
     requires named { PlansStand (map plan_of plans.now) }
-    requires asked { AllByRecursion (CanAskOf (guards_at now.now.tables.now) (map plan_of plans.now))
+    requires asked { AllByRecursion (CanAskOf (guards_now now.now) (map plan_of plans.now))
         (items_of sleepers.old.entries) }
     requires in_time { now.now.time ≤ MOST_TIME }
     requires queue { IsDeadlineQueue deadlines.old }
@@ -104,17 +104,30 @@ fn carry_awake(
         ≡ count_due (map plan_of plans.now) (items_of sleepers.new.entries) deadline) }
     ensures queue { IsDeadlineQueue deadlines.new }
 {
-    sleepers.wake(
-        alloc,
-        now.events.as_slice(),
-        step_moment(inserted, now.time),
-    )?;
+    wake(alloc, now.events, step_moment(inserted, now.time), sleepers)?;
     let mut more = Vec::new(alloc);
     while let Some(entry) = sleepers.peek() {
         let stays = carry_entry(alloc, plans, entry, now, inserted, later, &mut more)?;
         settle(plans, stays, sleepers, deadlines);
     }
     Ok(more)
+}
+
+// Wakes those that the events of a step wake, or its moment.
+fn wake(
+    alloc: Global,
+    events: &PresentEvents<'_>,
+    moment: u64,
+    sleepers: &mut Sleepers<Instance>,
+) -> Result<(), NoMemory>
+    ensures ok { OnOk result (IsAllBut (IsAsleep events.now moment) sleepers.old.entries sleepers.new.ahead) }
+    ensures entries { sleepers.new.entries ≡ sleepers.old.entries }
+{
+    if let Some(listed) = events.listed() {
+        return sleepers.wake(alloc, listed, moment);
+    }
+    let set = events.to_set(alloc)?;
+    sleepers.wake(alloc, set.as_slice(), moment)
 }
 
 // Whether an entry stays. What is begun for it is put last.
@@ -128,7 +141,7 @@ fn carry_entry(
     into: &mut Vec<Entry<Instance>>,
 ) -> Result<bool, NoMemory>
     requires named { PlansStand (map plan_of plans.now) }
-    requires asked { CanAskOf (guards_at now.now.tables.now) (map plan_of plans.now) entry.now.item }
+    requires asked { CanAskOf (guards_now now.now) (map plan_of plans.now) entry.now.item }
     requires in_time { now.now.time ≤ MOST_TIME }
     ensures { IfOk result (λ stays. (more : List (AnyEntry AnyInstance))
         × EntryBecomes now.now (map plan_of plans.now) inserted later
@@ -158,13 +171,13 @@ fn outcome_in(
     inserted: bool,
 ) -> Result<Outcome, NoMemory>
     requires named { PlansStand (map plan_of plans.now) }
-    requires asked { CanAskOf (guards_at now.now.tables.now) (map plan_of plans.now) entry.now.item }
+    requires asked { CanAskOf (guards_now now.now) (map plan_of plans.now) entry.now.item }
     requires in_time { now.now.time ≤ MOST_TIME }
     ensures after { IfOk result (λ o. (trace : List Step) → IsNowOf now.now trace
         → BecomesOne (map plan_of plans.now) inserted entry.now.item trace
         (cond o.stays (entry.now.item ∷ []) [] ++ o.begun.items)) }
     ensures asked { IfOk result (λ o. AllByRecursion
-        (CanAskOf (guards_at now.now.tables.now) (map plan_of plans.now)) o.begun.items) }
+        (CanAskOf (guards_now now.now) (map plan_of plans.now)) o.begun.items) }
     ensures come { IfOk result (λ o. (j : AnyInstance)
         → Contains (cond o.stays (entry.now.item ∷ []) [] ++ o.begun.items) j
         → ComesOf now.now (map plan_of plans.now) inserted entry.now.item j) }

@@ -1,5 +1,7 @@
 pub mod Vocabulary
+pub mod AgendaLemmas
 pub mod BackwardLemmas
+pub mod EachEventLemmas
 pub mod EntryLaws
 pub mod EntryLemmas
 pub mod GroupChangeLemmas
@@ -13,5 +15,6 @@ pub mod OrderLemmas
 pub mod PairLemmas
 pub mod PlaceLemmas
 pub mod PlaceListLemmas
+pub mod RousedLemmas
 pub mod SortedEntryLemmas
 pub mod StepLemmas

@@ -3,7 +3,7 @@ use Rattle.sleepers.proofs.Vocabulary.{◌≡◌, ℕ, ◌+◌, ◌<◌, List, [
 use Rattle.sleepers.proofs.Vocabulary.{AllByRecursion-append}
 
 module _ {X : Type 0} where
-  one_more : (xs : List X) (i : ℕ) (x : X) → i < length xs → x ≡ get_or xs i x → take (i + 1) xs ≡ take i xs ++ x ∷ []
+  pub one_more : (xs : List X) (i : ℕ) (x : X) → i < length xs → x ≡ get_or xs i x → take (i + 1) xs ≡ take i xs ++ x ∷ []
   one_more xs i x within is = take_more xs i x within ∙ ap (λ (y : X). take i xs ++ y ∷ []) (sym is)
 
   -- what is among the items up to the next

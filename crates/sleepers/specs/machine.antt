@@ -7,3 +7,4 @@ pub mod PatternKeys
 pub mod NotedGroups
 pub mod Groups
 pub mod Laws
+pub mod Agendas

@@ -1,23 +1,29 @@
 //! The groups of entries that a step wakes, and the group of an entry.
-ghost use Rattle.std.specs.Prelude.{◌≡◌, ℕ, [], Contains, IfOk, IfSome, IsFalse, IsTrue, OnOk, drop, length};
-ghost use Rattle.std.specs.Prelude.{reverse};
+ghost use Rattle.std.specs.Prelude.{◌≡◌, ◌⊎◌, ◌++◌, ◌∷◌, ℕ, [], Contains, IfOk, IfSome, IsFalse, IsTrue, List};
+ghost use Rattle.std.specs.Prelude.{OnOk, drop, length, reverse, true};
 ghost use Rattle.std.specs.List.Sorted.{IsPermutation, IsSortedByKey};
 ghost use Rattle.sleepers.specs.machine.Entries.{shown};
-ghost use Rattle.sleepers.specs.machine.Groups.{AreAlike, AreAwake, AreNoted, AreRewound, IsOfAwake, StandsAsleep};
-ghost use Rattle.sleepers.specs.machine.Groups.{StandsAwake, StayGroups, Suits, entries_at, group_at, held};
-ghost use Rattle.sleepers.specs.machine.NotedGroups.{CanBeFound, IsGroupFound, KeepsAll};
+ghost use Rattle.sleepers.specs.machine.Groups.{AreAlike, AreAwake, AreAwakeBy, AreNoted, AreRewound, IsOfAwake};
+ghost use Rattle.sleepers.specs.machine.Groups.{StandsAsleep, StandsAwake, StayGroups, Suits, entries_at, group_at};
+ghost use Rattle.sleepers.specs.machine.Groups.{held};
+ghost use Rattle.sleepers.specs.machine.NotedGroups.{CanBeFound, IsContainedIn, IsGroupFound, KeepsAll};
+ghost use Rattle.enf_data.specs.declared.events.Event.{Event as AnyEvent};
 ghost use Rattle.sleepers.specs.declared.entries.Entry.{Entry as AnyEntry};
 ghost use Rattle.sleepers.specs.machine.Places.{place_cmp};
 
 use crate::entries::Entry;
 use crate::groups::Groups;
 use crate::places::compare;
-use crate::wake_index::Index;
+use crate::wake_index::{Index, keep_each_once};
 use enf_data::{Event, NoMemory};
 use std::alloc::Global;
+use std::slice;
 
 // Up to so many groups a step looks at each of them, and none is noted.
 const FEW: usize = 16;
+
+// Whether a group is awake is told by a look at so many events at most.
+const FEW_EVENTS: usize = 4;
 
 // The groups whose entries are awake at a step of this time with these events, each once. They may take a room.
 pub(crate) fn awake<T: Drop>(
@@ -34,9 +40,124 @@ pub(crate) fn awake<T: Drop>(
     if !index.is_begun() {
         return awake_of_all(groups, events, time, room);
     }
+    if events.len() > FEW_EVENTS {
+        return awake_by_each(alloc, groups, index, events, time);
+    }
+    awake_of_found(alloc, groups, index, events, time)
+}
+
+// The same, where groups are noted: by a look at all events for each that the step can wake.
+fn awake_of_found<T: Drop>(
+    alloc: Global,
+    groups: &Groups<T>,
+    index: &Index,
+    events: &[Event],
+    time: u64,
+) -> Result<Vec<usize>, NoMemory>
+    requires noted { AreNoted groups.now index.now }
+    requires begun { index.now.is_begun ≡ true }
+    ensures { IfOk result (λ numbers. AreAwake events.now time groups.now numbers.items) }
+{
     let mut numbers = index.find(alloc, events, time)?;
     numbers.retain(|number| is_awake(groups, *number, events, time));
     Ok(numbers)
+}
+
+// The same, by a look at each that an event can wake with that event alone, so that many events wake many at no more
+// than one look each.
+fn awake_by_each<T: Drop>(
+    alloc: Global,
+    groups: &Groups<T>,
+    index: &Index,
+    events: &[Event],
+    time: u64,
+) -> Result<Vec<usize>, NoMemory>
+    requires noted { AreNoted groups.now index.now }
+    requires begun { index.now.is_begun ≡ true }
+    ensures { IfOk result (λ numbers. AreAwake events.now time groups.now numbers.items) }
+{
+    let mut numbers = awake_of_found(alloc, groups, index, &[], time)?;
+    let mut room = Vec::new(alloc);
+    for event in events {
+        push_awake(groups, index, event, time, &mut room, &mut numbers)?;
+    }
+    keep_each_once(&mut numbers);
+    Ok(numbers)
+}
+
+// Puts those groups last that the event can wake and that are awake at a step of this time with it. They are found in a
+// room.
+fn push_awake<T: Drop>(
+    groups: &Groups<T>,
+    index: &Index,
+    event: &Event,
+    time: u64,
+    room: &mut Vec<usize>,
+    numbers: &mut Vec<usize>,
+) -> Result<(), NoMemory>
+    requires noted { AreNoted groups.now index.now }
+    requires begun { index.now.is_begun ≡ true }
+    ensures { OnOk result ((events told : List AnyEvent) → Contains events event.now
+        → AreAwakeBy events told time groups.now numbers.old.items
+        → AreAwakeBy events (told ++ event.now ∷ []) time groups.now numbers.new.items) }
+{
+    room.clear();
+    index.find_each(slice::from_ref(event), room)?;
+    push_awake_of(groups, room.as_slice(), event, time, numbers)?;
+    Ok(())
+}
+
+// Puts those of some groups last that are awake at a step of this time with this event.
+fn push_awake_of<T: Drop>(
+    groups: &Groups<T>,
+    found: &[usize],
+    event: &Event,
+    time: u64,
+    numbers: &mut Vec<usize>,
+) -> Result<(), NoMemory>
+    requires { (number : ℕ) → AreAlike (entries_at groups.now number) }
+    ensures kept { OnOk result (IsContainedIn numbers.old.items numbers.new.items) }
+    ensures awake { OnOk result ((number : ℕ) → Contains numbers.new.items number
+        → Contains numbers.old.items number ⊎ StandsAwake (event.now ∷ []) time groups.now number) }
+    ensures looked { OnOk result ((number : ℕ) → Contains found.now number
+        → Contains numbers.new.items number ⊎ StandsAsleep (event.now ∷ []) time groups.now number) }
+{
+    for number in found {
+        if !is_awake(groups, *number, slice::from_ref(event), time) {
+            continue;
+        }
+        numbers.push(*number)?;
+    }
+    Ok(())
+}
+
+// Whether some entry may be awake at a step of this time with these events.
+pub(crate) fn may_wake<T: Drop>(
+    groups: &Groups<T>,
+    index: &Index,
+    events: &[Event],
+    time: u64,
+) -> bool
+    requires { AreNoted groups.now index.now }
+    ensures { IsFalse result → (number : ℕ) → StandsAsleep events.now time groups.now number }
+{
+    if index.is_begun() {
+        return index.may_wake(events, time);
+    }
+    is_some_awake(groups, events, time)
+}
+
+// Whether some group is awake at a step of this time with these events, by a look at each.
+fn is_some_awake<T: Drop>(groups: &Groups<T>, events: &[Event], time: u64) -> bool
+    requires { (number : ℕ) → AreAlike (entries_at groups.now number) }
+    ensures { IsFalse result → (number : ℕ) → StandsAsleep events.now time groups.now number }
+{
+    for number in 0..groups.len() {
+        if is_awake(groups, number, events, time) {
+            return true;
+        }
+    }
+    false
 }
 
 // The groups whose entries are awake at a step of this time with these events, by a look at each group.

@@ -1,11 +1,13 @@
 //! Entries that sleep until an event or a time wakes them.
-ghost use Rattle.std.specs.Prelude.{◌↔◌, IsTrue};
+ghost use Rattle.std.specs.Prelude.{◌↔◌, IsFalse, IsTrue};
+ghost use Rattle.sleepers.specs.machine.Agendas.{LeavesAsleep};
 ghost use Rattle.sleepers.specs.machine.Entries.{IsAsleep};
 ghost use Rattle.sleepers.specs.machine.Groups.{WakeAlike};
 
 use crate::patterns::{Patterns, has_none};
 use crate::places::Place;
 use enf_data::Event;
+use std::slice;
 
 /// An item with its place, the patterns of the events that wake it, or none where each step does, and the time from
 /// which on it is awake.
@@ -24,6 +26,16 @@ impl<T> Entry<T> {
     {
         match &self.patterns {
             Some(patterns) => time < self.end && has_none(patterns.as_slice(), events),
+            None => false,
+        }
+    }
+
+    // Whether the event is of one of the patterns that wake the entry.
+    pub(crate) fn is_roused_by(&self, event: &Event) -> bool
+        ensures { IsFalse result → LeavesAsleep event.now self.now }
+    {
+        match &self.patterns {
+            Some(patterns) => !has_none(patterns.as_slice(), slice::from_ref(event)),
             None => false,
         }
     }

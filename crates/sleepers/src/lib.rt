@@ -2,6 +2,7 @@
 //! `enf_data`.
 #![tactic(auto)]
 
+pub mod agenda;
 mod awake_groups;
 pub mod entries;
 mod groups;
@@ -10,10 +11,12 @@ pub mod laws;
 mod pairs;
 pub mod patterns;
 pub mod places;
+mod rousing;
 pub mod sleeper_list;
 mod wake_index;
 pub mod worked_cases;
 
+pub use agenda::Agenda;
 pub use entries::Entry;
 // A crate can name `Sleepers` in a contract only if the types of its fields are exported.
 #[doc(hidden)]

@@ -81,7 +81,7 @@ impl Pairs {
     }
 
     // Whether all keys are above this one.
-    fn is_above(&self, key: u64) -> bool
+    pub(crate) fn is_above(&self, key: u64) -> bool
         ensures { IsTrue result → (pair : ℕ × ℕ) → Contains self.now pair → pair.0 ≤ key → ⊥ }
     {
         match self.pairs.first() {

@@ -1,14 +1,18 @@
 //! Entries in the order of their places, and a walk over those that are awake.
-ghost use Rattle.std.specs.Prelude.{◌≡◌, ◌↔◌, ◌++◌, [], ◌∷◌, IsNone, drop, length, IfNone, IfOk};
+ghost use Rattle.std.specs.Prelude.{◌≡◌, ◌↔◌, ◌++◌, [], ◌∷◌, IsNone, drop, length, IfNone, IfOk, IsFalse};
 ghost use Rattle.std.specs.Prelude.{IfSome, OnErr, OnOk};
 ghost use Rattle.std.specs.Option.{option_to_list};
+ghost use Rattle.sleepers.specs.machine.Agendas.{Rouses};
+ghost use Rattle.sleepers.specs.machine.NotedGroups.{IsContainedIn};
 ghost use Rattle.sleepers.specs.machine.Entries.{AllButThose, HasOneMoreEntry, IsAllBut, IsAsleep, IsFreePlace, shown};
 
+use crate::agenda::Agenda;
 use crate::awake_groups::{
-    awake, group_for, leave, release, renew, rewind_each, sort_by_place, woken,
+    awake, group_for, leave, may_wake, release, renew, rewind_each, sort_by_place, woken,
 };
 use crate::entries::Entry;
 use crate::groups::Groups;
+use crate::rousing::roused;
 use crate::wake_index::Index;
 use enf_data::{Event, NoMemory, Seed};
 use std::alloc::Global;
@@ -94,6 +98,38 @@ impl<T: Drop> Sleepers<T> {
         let mut woken = woken(alloc, &self.groups, &self.index, events, time)?;
         sort_by_place(&mut woken);
         Ok(woken)
+    }
+
+    /// Those that are awake at a step of this time with these events, to be looked at one after another.
+    pub fn agenda(
+        &self,
+        alloc: Global,
+        events: &[Event],
+        time: u64,
+    ) -> Result<Agenda<'_, T>, NoMemory>
+        ensures { IfOk result (λ agenda. AllButThose (IsAsleep events.now time) self.now.entries agenda) }
+    {
+        let mut woken = woken(alloc, &self.groups, &self.index, events, time)?;
+        sort_by_place(&mut woken);
+        Ok(Agenda::of(woken))
+    }
+
+    /// Whether some entry may be awake at a step of this time with these events: one waits for an event of such a name,
+    /// or a time has come.
+    pub fn may_wake(&self, events: &[Event], time: u64) -> bool
+        ensures { IsFalse result → AllButThose (IsAsleep events.now time) self.now.entries [] }
+    {
+        may_wake(&self.groups, &self.index, events, time)
+    }
+
+    /// Puts those entries into an agenda that the event wakes. Without memory some may be missing.
+    pub fn rouse<'a>(&'a self, event: &Event, agenda: &mut Agenda<'a, T>) -> Result<(), NoMemory>
+        requires { IsContainedIn agenda.old self.now.entries }
+        ensures ok { OnOk result (Rouses event.now self.now.entries agenda.old agenda.new) }
+        ensures among { IsContainedIn agenda.new self.now.entries }
+    {
+        let roused = roused(self.alloc, &self.groups, &self.index, event)?;
+        agenda.put_each(roused.as_slice())
     }
 
     /// Puts an entry in, at a place that none has. A walk is over then. Without memory the entries stay.

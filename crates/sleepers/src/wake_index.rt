@@ -1,5 +1,5 @@
 //! Which groups of entries a step wakes.
-ghost use Rattle.std.specs.Prelude.{◌≡◌, ◌⊎◌, ℕ, [], true, false, Contains, IfOk, List, OnOk, Option};
+ghost use Rattle.std.specs.Prelude.{◌≡◌, ◌⊎◌, ◌≤◌, ℕ, [], true, false, Contains, IfOk, IsFalse, List, OnOk, Option};
 ghost use Rattle.std.specs.List.{AllByRecursion};
 ghost use Rattle.enf_data.specs.meaning.Membership.{HasNoRepeats};
 ghost use Rattle.sleepers.specs.machine.PatternKeys.{pattern_key, shape_of};
@@ -7,11 +7,13 @@ ghost use Rattle.sleepers.specs.machine.NotedGroups.{IsGroupFound, IsNoted, IsCo
 ghost use Rattle.sleepers.specs.machine.NotedGroups.{KeepsOthers, PatternsSleep, awake_from};
 ghost use Rattle.sleepers.specs.machine.Patterns.{MatchesPattern};
 ghost use Rattle.sleepers.specs.declared.patterns.Pattern.{Pattern as AnyPattern};
+ghost use Rattle.sleepers.specs.declared.keys.Shape.{Shape as AnyShape};
+ghost use Rattle.enf_data.specs.declared.events.Event.{Event as AnyEvent};
 
 use crate::keys::{Shape, key_at, key_of, note_shape};
 use crate::pairs::Pairs;
 use crate::patterns::{Pattern, Patterns};
-use enf_data::{Event, NoMemory, Seed};
+use enf_data::{Event, NameId, NoMemory, Seed};
 use std::alloc::Global;
 use std::marker::Model;
 
@@ -163,7 +165,19 @@ impl Index {
         Ok(found)
     }
 
-    fn find_each(&self, events: &[Event], found: &mut Vec<usize>) -> Result<(), NoMemory>
+    // Whether an event has the name of a pattern, or the time can wake some group.
+    pub(crate) fn may_wake(&self, events: &[Event], time: u64) -> bool
+        ensures { IsFalse result → (group : ℕ) (patterns : Option (List AnyPattern)) (end : ℕ)
+            → IsGroupFound self.now group patterns end → PatternsSleep events.now time patterns end }
+    {
+        if !self.by_end.is_above(time) {
+            return true;
+        }
+        has_name_of(self.shapes.as_slice(), events)
+    }
+
+    // Adds the groups that are noted under a pattern of which one of the events is, and it may be others.
+    pub(crate) fn find_each(&self, events: &[Event], found: &mut Vec<usize>) -> Result<(), NoMemory>
         ensures ok { OnOk result ((group : ℕ) (pattern : AnyPattern) → IsNoted self.now group pattern
             → (event : _) → Contains events.now event → MatchesPattern pattern event
             → Contains found.new.items group) }
@@ -220,9 +234,36 @@ fn find_shape(
     by_pattern.find(key, key, found)
 }
 
-fn keep_each_once(numbers: &mut Vec<usize>)
+// Whether an event has the name of a shape.
+fn has_name_of(shapes: &[Shape], events: &[Event]) -> bool
+    ensures { IsFalse result → (shape : AnyShape) → Contains shapes.now shape
+        → (event : AnyEvent) → Contains events.now event → event.name ≡ shape.name → ⊥ }
+{
+    for event in events {
+        if is_named_in(shapes, event.name) {
+            return true;
+        }
+    }
+    false
+}
+
+// Whether a shape has the name.
+fn is_named_in(shapes: &[Shape], name: NameId) -> bool
+    ensures { IsFalse result → (shape : AnyShape) → Contains shapes.now shape → name ≡ shape.name → ⊥ }
+{
+    for shape in shapes {
+        if shape.name.0 == name.0 {
+            return true;
+        }
+    }
+    false
+}
+
+// Leaves of numbers each once.
+pub(crate) fn keep_each_once(numbers: &mut Vec<usize>)
     ensures once { HasNoRepeats numbers.new.items }
     ensures same { IsContainedIn numbers.old.items numbers.new.items }
+    ensures among { IsContainedIn numbers.new.items numbers.old.items }
 {
     numbers.sort_unstable();
     numbers.dedup();

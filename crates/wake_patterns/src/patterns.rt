@@ -77,8 +77,8 @@ pub fn one_pattern(
 ) -> Result<Option<Patterns>, NoMemory>
     ensures { IfOk result (λ found. found ≡ waking.patterns_of_one (bound_in v.now) name terms.now) }
 {
-    // room for that of another side
-    let mut patterns = Vec::with_capacity(alloc, 2)?;
+    // most have no other beside them
+    let mut patterns = Vec::with_capacity(alloc, 1)?;
     patterns.push(pattern_of(alloc, name, terms, v)?)?;
     Ok(Some(Items::from_vec(patterns)))
 }

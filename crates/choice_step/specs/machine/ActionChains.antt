@@ -3,32 +3,16 @@ use Rattle.enf_data.specs.declared.events.Event.{Event}
 use Rattle.enf_data.specs.declared.events.NameId.{NameId}
 use Rattle.enf_data.specs.declared.steps.Step.{Step}
 use Rattle.enf_data.specs.meaning.Membership.{TakesOut}
-use Rattle.std.specs.List.{AllByRecursion}
-use Rattle.std.specs.Prelude.{◌≡◌, ℕ, List, Some, slice_get, Contains, ◌++◌, ◌≤◌, Bool, length, []}
+use Rattle.std.specs.Prelude.{◌≡◌, ℕ, List, Contains, ◌++◌, ◌≤◌, Bool, length, []}
 use Rattle.std.specs.Prelude.{◌∷◌}
 use Rattle.trace_meaning.specs.meaning.Traces.{last_time}
-use Rattle.plan_terms.specs.meaning.Plans.{IsCaused, IsSuppressed, nodes, Plan}
+use Rattle.plan_terms.specs.meaning.Plans.{IsCaused, IsSuppressed, Plan}
 use Rattle.past_state.specs.machine.Past.{Past, PastStands}
 use Rattle.obligations.specs.declared.actions.Action.{Action}
 use Rattle.obligations.specs.declared.instances.Instance.{Instance}
 use Rattle.obligations.specs.declared.literals.LiteralKind.{LiteralKind}
 use Rattle.obligations.specs.declared.literals.LiteralKind.TheVariants.{Cause, Suppress}
-use Rattle.obligations.specs.machine.PlanClasses.{IsPlain}
 use Rattle.choice_step.specs.meaning.Choice.{Decides}
-
--- the plan of a rule has no choices
-pub record HasNoChoices (plans : List Plan) (rule : ℕ) : Type 0 where
-  pub plan : Plan
-  pub there : slice_get plans rule ≡ Some plan
-  pub plain : AllByRecursion IsPlain (nodes plan)
-
--- no action is on one of the names
-abbrev pub AreSpared : List NameId → List Action → Type 0
-AreSpared names = AllByRecursion (λ action. Contains names action.event.name → ⊥)
-
--- no action that came after others is on one of the names
-abbrev pub AreSparedBehind : List NameId → (before after : List Action) → Type 0
-AreSparedBehind names before after = (more : List Action) × (after ≡ before ++ more) × AreSpared names more
 
 -- for each trace of so many steps for which the past state stands, and whose last time is not later, the choice loop
 -- leads from the one list of events by the actions to the other

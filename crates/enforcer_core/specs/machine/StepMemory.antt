@@ -26,7 +26,6 @@ use Rattle.pending.specs.machine.PendingLists.{IsPendingListOf}
 use Rattle.pending.specs.machine.Waits.{SleepsNow}
 use Rattle.sleepers.specs.machine.Entries.{AllButThose}
 use Rattle.choice_step.specs.machine.ActionChains.{ActsFrom}
-use Rattle.choice_step.specs.machine.Batches.{AreBatches}
 use Rattle.choice_step.specs.machine.AskedLeaves.{AreAskedActions}
 use Rattle.choice_step.specs.machine.RuleTriggers.{AllSleep}
 use Rattle.choice_step.specs.meaning.Follows.{is_inserted, GoesOut}
@@ -39,7 +38,6 @@ use Rattle.enforcer_core.specs.declared.steps.OutStep as made
 -- nothing but now, that no node is of the future
 pub record AreFactsOf (plans : List Plan) (facts : kept.PlanFacts) : Type 0 where
   pub wakes : facts.wakes ≡ map waking_names plans
-  pub batches : AreBatches plans facts.batches
   pub present : IsTrue facts.looks_at_now → AllByRecursion LooksAtNow plans
 
 -- the greatest number of steps that are emitted

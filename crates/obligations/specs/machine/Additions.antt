@@ -4,7 +4,7 @@ use Rattle.std.specs.List.{AllByRecursion}
 use Rattle.std.specs.Prelude.{◌≡◌, ◌+◌, List, ◌++◌, ◌⊎◌, Contains, ℕ}
 use Rattle.plan_terms.specs.machine.NamedNodes.{StandsIn}
 use Rattle.plan_terms.specs.meaning.Plans.{Plan}
-use Rattle.past_state.specs.machine.GuardPlaces.{guards_at}
+use Rattle.obligations.specs.machine.FreshGuards.{guards_now}
 use Rattle.obligations.specs.declared.instances.Instance.{Instance}
 use Rattle.obligations.specs.declared.present_step.Now.{Now}
 use Rattle.obligations.specs.machine.AskablePlans.{CanAskOf}
@@ -31,5 +31,5 @@ pub record AddsAsked (now : Now) (rule : ℕ) (plan : Plan) (P : List Step → L
     (before after : List Instance) : Type 0 where
   pub adds : AddsList now P before after
   pub asked : (plans : List Plan) → StandsIn plans rule plan
-      → AllByRecursion (CanAskOf (guards_at now.tables.now) plans) adds.more
+      → AllByRecursion (CanAskOf (guards_now now) plans) adds.more
   pub begun : AllByRecursion (IsBegunHere now rule plan) adds.more

@@ -10,12 +10,12 @@ use Rattle.std.specs.List.{list_any}
 use Rattle.std.specs.Prelude.{Bool, List, Contains, Option, None, Some, false, nat_eq, ℕ, ◌≡◌}
 use Rattle.enf_formula.specs.meaning.Satisfaction.{Formula}
 use Rattle.plan_terms.specs.meaning.Plans.{Plan, SuppressPlan, TestOr, Guarded}
-use Rattle.past_state.specs.machine.GuardPlaces.{guards_at}
 use Rattle.valuations.specs.machine.Bindings.{filled_from_row}
 use Rattle.valuations.specs.machine.Tables.{Relation}
 use Rattle.obligations.specs.declared.literals.Literal.{Literal}
 use Rattle.obligations.specs.declared.present_step.Now.{Now}
 use Rattle.obligations.specs.machine.AskablePlans.{CanAskPlan}
+use Rattle.obligations.specs.machine.FreshGuards.{guards_now}
 use Rattle.obligations.specs.machine.PresentStep.{IsNowOf}
 use Rattle.obligations.specs.machine.WantedLiterals.{IsWanted, IsWantedUnder}
 use Rattle.obligations.specs.meaning.Obligations.{Missing, Gathers}
@@ -39,7 +39,7 @@ is_in_terms terms x = list_any (is_term_of x) terms
 -- wants under one the plan wants
 pub record TellMissing (now : Now) (plan body : Plan) (v : Valuation) (rows : Relation) : Type 0 where
   pub asked : (row : List Value) → Contains rows.rows row
-      → CanAskPlan (guards_at now.tables.now) body (filled_from_row v rows.columns row)
+      → CanAskPlan (guards_now now) body (filled_from_row v rows.columns row)
   pub missed : (trace : List Step) → IsNowOf now trace → (literals : List Literal)
       → Gathers (λ row. Missing trace body (filled_from_row v rows.columns row)) rows.rows literals
       → Missing trace plan v literals
@@ -50,4 +50,4 @@ pub record IsGuardedBy (now : Now) (guard : ℕ) (test : Formula) (xs : List Var
     (plan : Plan) : Type 0 where
   pub node : ℕ
   pub is : plan ≡ Guarded node xs guard test body
-  pub can : CanAskPlan (guards_at now.tables.now) plan v
+  pub can : CanAskPlan (guards_now now) plan v

@@ -3,11 +3,13 @@
 use Rattle.enf_data.specs.declared.events.NameId.{NameId}
 use Rattle.enf_data.specs.declared.terms.Term.{Term}
 use Rattle.std.specs.List.{AllByRecursion}
-use Rattle.std.specs.Prelude.{List, ◌≡◌, ◌⊎◌, Bool, true, false, not, nat_eq}
+use Rattle.std.specs.Prelude.{List, ◌≡◌, ◌⊎◌, Bool, true, false, not, nat_eq, Contains, Some}
 use Rattle.enf_formula.specs.machine.Polarity.{AsksOnly}
 use Rattle.enf_formula.specs.meaning.Satisfaction.{Formula, Atom, And}
 use Rattle.plan_terms.specs.meaning.Plans.{nodes, Plan, CausePlan, SuppressPlan, TestOr, Guarded}
+use Rattle.obligations.specs.declared.instances.Instance.{Instance}
 use Rattle.obligations.specs.declared.literals.LiteralKind.{LiteralKind}
+use Rattle.obligations.specs.meaning.Pending.{node_of}
 use Rattle.obligations.specs.machine.UnreadNames.{Ignores, IgnoresAt, IsUnread}
 use Rattle.obligations.specs.declared.literals.LiteralKind.TheVariants as kind
 
@@ -74,15 +76,19 @@ LeavesRest k name plan = IsUnread k name plan
 abbrev pub LeavesRestIn : LiteralKind → NameId → Plan → Type 0
 LeavesRestIn k name plan = AllByRecursion (LeavesRest k name) (nodes plan)
 
--- ---- actions at once
-
--- the plans stay met where events of the name go, and one of them misses the rest of what it missed
-abbrev pub CanBatch : List Plan → NameId → Plan → Type 0
-CanBatch plans name plan =
-    AllByRecursion (IsUnmovedIn kind.Suppress name) plans × LeavesRestIn kind.Suppress name plan
-
 -- ---- guards that name it
 
 -- no guard or test of the plan looks for the name
 abbrev pub IgnoresIn : NameId → Plan → Type 0
 IgnoresIn name plan = AllByRecursion (IgnoresAt name) (nodes plan)
+
+-- ---- instances
+
+-- an action on the name leaves the node of an instance as it was
+abbrev pub IsUnmovedOf : List Plan → LiteralKind → NameId → Instance → Type 0
+IsUnmovedOf plans k name i = (node : Plan) → node_of plans i ≡ Some node → IsUnmovedIn k name node
+
+-- the node of an instance looks for none of the names
+abbrev pub IgnoresAllOf : List Plan → List NameId → Instance → Type 0
+IgnoresAllOf plans names i = (name : NameId) → Contains names name → (node : Plan) → node_of plans i ≡ Some node
+    → IgnoresIn name node

@@ -4,7 +4,7 @@ use Rattle.enf_data.specs.declared.terms.VarId.{VarId}
 use Rattle.std.specs.Prelude.{Contains, List, ◌≡◌, ◌⊎◌, Bool, [], Option, None, Some}
 use Rattle.plan_terms.specs.machine.StoredPlans.{plan_of}
 use Rattle.plan_terms.specs.meaning.Plans.{nodes, Plan, EventuallyPlan, AlwaysPlan, UntilPlan, NextPlan}
-use Rattle.past_state.specs.machine.GuardPlaces.{guards_at}
+use Rattle.obligations.specs.machine.FreshGuards.{guards_now}
 use Rattle.obligations.specs.declared.instances.Instance.{Instance}
 use Rattle.obligations.specs.declared.literals.Literal.{Literal}
 use Rattle.obligations.specs.declared.present_step.Now.{Now}
@@ -17,7 +17,7 @@ use Rattle.obligations.specs.meaning.Pending.{MissesAt}
 -- a part of a node can be asked for an instance of it
 pub record IsAskedPart (now : Now) (node : Plan) (i : Instance) (part : Plan) : Type 0 where
   pub inside : (leaf : Plan) → Contains (nodes part) leaf → Contains (nodes node) leaf
-  pub can : CanAskPlan (guards_at now.tables.now) part i.valuation
+  pub can : CanAskPlan (guards_now now) part i.valuation
 
 abbrev pub node_with_scope : FutureNode → Plan × List VarId
 node_with_scope found = (plan_of found.node.now, found.scope.items)
@@ -35,7 +35,7 @@ pub record AsksPart (now : Now) (node : Plan) (i : Instance) (forced : Bool) (pa
   pub misses : (trace : List Step) → IsNowOf now trace → (literals : List Literal)
       → Missing trace part i.valuation literals → MissesAt trace node i forced literals
   pub inside : (leaf : Plan) → Contains (nodes part) leaf → Contains (nodes node) leaf
-  pub can : CanAskPlan (guards_at now.tables.now) part i.valuation
+  pub can : CanAskPlan (guards_now now) part i.valuation
   pub has : HasPart node part
 
 -- an instance of the node misses what this part of it misses, or nothing

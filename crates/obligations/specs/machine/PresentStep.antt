@@ -11,6 +11,7 @@ use Rattle.past_state.specs.declared.guards.PlacedGuard.{PlacedGuard}
 use Rattle.past_state.specs.machine.Past.{IsGuard, guard_formula, tables_of}
 use Rattle.obligations.specs.declared.instances.Instance.{Instance}
 use Rattle.obligations.specs.declared.present_step.Now.{Now}
+use Rattle.obligations.specs.machine.FreshGuards.{IgnoresAll}
 use Rattle.obligations.specs.meaning.Obligations.{time_now, LacksNothing, LacksSome, Begun, HoldsLast, last_position}
 
 -- a node that is begun at the step, with a window that begins and ends so much later
@@ -24,14 +25,15 @@ begun_at_now now rule node low high v = record {
   high = now.time + high;
 }
 
--- the step is the last one of the trace, and each guard holds by its tables where it is satisfied
+-- the step is the last one of the trace, and each guard that looks for no stale name holds by its tables where it is
+-- satisfied
 pub record IsNowOf (now : Now) (trace : List Step) : Type 0 where
   pub some : 0 < length trace
   pub position : last_position trace ≡ now.position
   pub time : time_now trace ≡ now.time
   pub events : (step_at trace (last_position trace)).events ≡ now.events.now
-  pub guards : (number : ℕ) (g : PlacedGuard) → IsGuard now.tables.now.guards number g → (v : Valuation)
-      → BindsFree v (guard_formula g)
+  pub guards : (number : ℕ) (g : PlacedGuard) → IsGuard now.tables.now.guards number g
+      → IgnoresAll now.stale.now (guard_formula g) → (v : Valuation) → BindsFree v (guard_formula g)
       → HoldsNow now.ordered.now (tables_of g now.tables.now) v (guard_formula g) ↔ HoldsLast trace v
       (guard_formula g)
 

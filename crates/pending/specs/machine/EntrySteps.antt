@@ -4,7 +4,7 @@ use Rattle.std.specs.List.{AllByRecursion}
 use Rattle.std.specs.Prelude.{◌≡◌, ℕ, Bool, cond, Contains, List, [], ◌∷◌, ◌++◌, map, ◌-◌}
 use Rattle.std.specs.Prelude.{◌^◌}
 use Rattle.plan_terms.specs.meaning.Plans.{Plan}
-use Rattle.past_state.specs.machine.GuardPlaces.{guards_at}
+use Rattle.obligations.specs.machine.FreshGuards.{guards_now}
 use Rattle.sleepers.specs.declared.entries.Entry.{Entry}
 use Rattle.sleepers.specs.machine.Entries.{IsAllBut, IsAsleep}
 use Rattle.sleepers.specs.machine.EntrySteps.{EntryOutcome, TakesOutEntries, begun_entries, gone_entries}
@@ -28,7 +28,7 @@ pub record EntryBecomes (now : Now) (plans : List Plan) (inserted : Bool) (later
       → BecomesOne plans inserted o.entry.item trace (cond o.stays (o.entry.item ∷ []) [] ++ more)
   pub come : (j : Instance) → Contains (cond o.stays (o.entry.item ∷ []) [] ++ more) j
       → ComesOf now plans inserted o.entry.item j
-  pub asked : AllByRecursion (CanAskOf (guards_at now.tables.now) plans) more
+  pub asked : AllByRecursion (CanAskOf (guards_now now) plans) more
 
 -- so much of a walk is done: these are still ahead of all that were ahead, the others became what they became, some
 -- were taken out, and this was begun
@@ -53,6 +53,6 @@ pub record CarriesPending (now : Now) (plans : List Plan) (inserted : Bool) (ste
   pub walks : WalksEntries now plans inserted later all first left [] begun_for
   pub roots : List Instance
   pub by_roots : (trace : List Step) → IsNowOf now trace → BegunByRoots trace 0 plans roots
-  pub asked : AllByRecursion (CanAskOf (guards_at now.tables.now) plans) roots
+  pub asked : AllByRecursion (CanAskOf (guards_now now) plans) roots
   pub come : (j : Instance) → Contains roots j → ComesOfRoot now plans j
   pub grown : more ≡ begun_for ++ entries_from plans now.time [] steps 0 roots

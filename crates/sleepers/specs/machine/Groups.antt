@@ -96,6 +96,13 @@ module _ {T : Type 0} where
     pub others : (number : ℕ) (entry : Entry T) → Contains (entries_at groups number) entry
         → Contains numbers number ⊎ IsAsleep events time entry
 
+  -- each of these groups is awake at the step, and the entries of the others sleep, as far as some of its events tell
+  pub record AreAwakeBy (events told : List Event) (time : ℕ) (groups : List (Split (Entry T))) (numbers : List ℕ)
+      : Type 0 where
+    pub awake : (number : ℕ) → Contains numbers number → StandsAwake events time groups number
+    pub others : (number : ℕ) (entry : Entry T) → Contains (entries_at groups number) entry
+        → Contains numbers number ⊎ IsAsleep told time entry
+
   -- the entries of the groups that are awake
   pub record IsOfAwake (events : List Event) (time : ℕ) (groups : List (Split (Entry T))) (entries : List (Entry T))
       : Type 0 where

@@ -1,4 +1,5 @@
-use Rattle.choice_step.proofs.Vocabulary.{◌≤◌, ℕ, All, get_or, take, subst, arith, take_all, All-contains, All-more, All-weaker}
+use Rattle.std.proofs.lemmas.List.{get_or_default}
+use Rattle.choice_step.proofs.Vocabulary.{inr, ◌≤◌, ℕ, All, get_or, take, subst, arith, take_all, All-contains, All-more, All-weaker}
 use Rattle.choice_step.proofs.woken_rules.least_from.Goals.{then-rule-from-via-then-rule-from, then-rule-from-via-else-rule-from+then-least-rule}
 use Rattle.choice_step.proofs.woken_rules.least_from.Goals as goal
 
@@ -16,6 +17,7 @@ loop-rule-preserved-then-rule-from c =
             | then-rule-from-via-then-rule-from w ↦ absurd (omega (arith, w.if-rule-from.true, le))
             | then-rule-from-via-else-rule-from+then-least-rule w ↦ w.if-least-rule.true
           ]),
+      was.3,
     )
 
 pub loop-rule-preserved : goal.loop-rule-preserved
@@ -28,6 +30,7 @@ loop-rule-preserved c =
       All-more (AtMost from least) c.args.rules.now c.loop-rule.rule-index 0 c.loop-rule-test.true
           (All-weaker (AtMost from c.loop-rule.least) (AtMost from least) (λ rule at le. omega (arith, c.if-least-rule.false, at le)) (take c.loop-rule.rule-index c.args.rules.now) was.2)
           (λ le. omega arith),
+      inr (c.loop-rule.rule-index, c.loop-rule-test.true, get_or_default c.args.rules.now c.loop-rule.rule-index least 0 c.loop-rule-test.true),
     )
 
 pub returns-clause-least : goal.returns-clause-least

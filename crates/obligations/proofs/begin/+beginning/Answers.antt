@@ -1,6 +1,6 @@
 use Rattle.obligations.proofs.Vocabulary.{rules, ◌≡◌, ◌<◌, ◌≤◌, List, [], length, take, refl, ⊎_elim, sym, ap, subst, arith, AllByRecursion, option_copied, option_map, take_all, get_or_from_slice_get}
 use Rattle.obligations.proofs.Vocabulary.{on_ok_weaker, Valuation, Value, on_ok_both, tree_of, EndsInTime, nodes, CausePlan, SuppressPlan, Both, Either, UntilPlan, plan_of, bound_in, filled_from_row}
-use Rattle.obligations.proofs.Vocabulary.{AddsAsked, TellsNothing, IsSideTaken, TakesSide, CanAskPlan, CanAskIn, guards_at, Begun, Gathers}
+use Rattle.obligations.proofs.Vocabulary.{AddsAsked, TellsNothing, IsSideTaken, TakesSide, CanAskPlan, CanAskIn, guards_now, Begun, Gathers}
 use Rattle.std.specs.Prelude.{true, false, None, ◌+◌}
 use Rattle.obligations.proofs.AdditionLemmas.{body_can, gathers_one_more}
 use Rattle.obligations.proofs.AskablePlanLemmas.{binds_bound, is_test, within}
@@ -13,14 +13,14 @@ use Rattle.obligations.proofs.begin.+beginning.Goals as goal
 
 pub begin_behind-begin_behind-requires-in-Both : goal.begin_behind-begin_behind-requires-in-Both
 begin_behind-begin_behind-requires-in-Both t c =
-    let can = subst (λ p. CanAskIn (guards_at c.args.now.now.tables.now) (plan_of p) c.requires.asked.scope) c.in-Both.is c.requires.asked.can in
+    let can = subst (λ p. CanAskIn (guards_now c.args.now.now) (plan_of p) c.requires.asked.scope) c.in-Both.is c.requires.asked.can in
     let smaller : length (nodes (plan_of c.deref-in-Both.result.now)) < length (nodes (plan_of c.args.plan.now)) =
     subst (λ p. length (nodes (plan_of p)) < length (nodes (plan_of c.args.plan.now))) (sym c.deref-in-Both.ensures)
     (subst (λ p. length (nodes (plan_of c.in-Both.right.value)) < length (nodes (plan_of p))) (sym c.in-Both.is)
     (right_smaller (Both c.in-Both.node (plan_of c.in-Both.left.value) (plan_of c.in-Both.right.value)) (plan_of c.in-Both.left.value) (plan_of c.in-Both.right.value))) in (
       omega (arith, smaller),
       (
-        subst (λ p. CanAskPlan (guards_at c.args.now.now.tables.now) (plan_of p) (bound_in c.args.v.now)) (sym c.deref-in-Both.ensures)
+        subst (λ p. CanAskPlan (guards_now c.args.now.now) (plan_of p) (bound_in c.args.v.now)) (sym c.deref-in-Both.ensures)
             (record { scope = c.requires.asked.scope; can = can.2; fits = c.requires.asked.fits }),
         (
           subst (λ p. AllByRecursion EndsInTime (nodes (plan_of p))) (sym c.deref-in-Both.ensures)
@@ -46,7 +46,7 @@ begin_behind-begin_behind-requires-in-Some t c =
       omega (arith, smaller),
       (
         side_asked c.args.now.now c.args.rule (bound_in c.args.v.now) c.in-Either.node (plan_of c.in-Either.left.value) (plan_of c.in-Either.right.value) side taken.one
-            (subst (λ p. CanAskPlan (guards_at c.args.now.now.tables.now) (plan_of p) (bound_in c.args.v.now)) c.in-Either.is c.requires.asked),
+            (subst (λ p. CanAskPlan (guards_now c.args.now.now) (plan_of p) (bound_in c.args.v.now)) c.in-Either.is c.requires.asked),
         (
           all_inside EndsInTime side (Either c.in-Either.node (plan_of c.in-Either.left.value) (plan_of c.in-Either.right.value))
               (side_inside c.args.now.now c.args.rule (bound_in c.args.v.now) c.in-Either.node (plan_of c.in-Either.left.value) (plan_of c.in-Either.right.value) side taken.one)
@@ -58,22 +58,22 @@ begin_behind-begin_behind-requires-in-Some t c =
 
 pub begin_behind-holds_under-requires-clause-within : goal.begin_behind-holds_under-requires-clause-within
 begin_behind-holds_under-requires-clause-within t c =
-    let can = subst (λ p. CanAskIn (guards_at c.args.now.now.tables.now) (plan_of p) c.requires.asked.scope) c.in-TestOr.is c.requires.asked.can in
-    within c.args.now.now.tables.now c.in-TestOr.guard (tree_of c.in-TestOr.test.value) c.requires.asked.scope can.0.0
+    let can = subst (λ p. CanAskIn (guards_now c.args.now.now) (plan_of p) c.requires.asked.scope) c.in-TestOr.is c.requires.asked.can in
+    within c.args.now.now c.in-TestOr.guard (tree_of c.in-TestOr.test.value) c.requires.asked.scope can.0.0
 
 pub begin_behind-holds_under-requires-clause-binds : goal.begin_behind-holds_under-requires-clause-binds
 begin_behind-holds_under-requires-clause-binds t c =
-    let can = subst (λ p. CanAskIn (guards_at c.args.now.now.tables.now) (plan_of p) c.requires.asked.scope) c.in-TestOr.is c.requires.asked.can in
-    binds_bound c.args.now.now.tables.now c.in-TestOr.guard (tree_of c.in-TestOr.test.value) c.requires.asked.scope can.0.0 (bound_in c.args.v.now) c.requires.asked.fits.binds
+    let can = subst (λ p. CanAskIn (guards_now c.args.now.now) (plan_of p) c.requires.asked.scope) c.in-TestOr.is c.requires.asked.can in
+    binds_bound c.args.now.now c.in-TestOr.guard (tree_of c.in-TestOr.test.value) c.requires.asked.scope can.0.0 (bound_in c.args.v.now) c.requires.asked.fits.binds
 
 pub begin_behind-holds_under-requires-clause-test : goal.begin_behind-holds_under-requires-clause-test
 begin_behind-holds_under-requires-clause-test t c =
-    let can = subst (λ p. CanAskIn (guards_at c.args.now.now.tables.now) (plan_of p) c.requires.asked.scope) c.in-TestOr.is c.requires.asked.can in
-    is_test c.args.now.now.tables.now c.in-TestOr.guard (tree_of c.in-TestOr.test.value) c.requires.asked.scope can.0.0 can.0.1
+    let can = subst (λ p. CanAskIn (guards_now c.args.now.now) (plan_of p) c.requires.asked.scope) c.in-TestOr.is c.requires.asked.can in
+    is_test c.args.now.now c.in-TestOr.guard (tree_of c.in-TestOr.test.value) c.requires.asked.scope can.0.0 can.0.1
 
 pub begin_behind-returns-then-branch : goal.begin_behind-returns-then-branch
 begin_behind-returns-then-branch t c =
-    let can = subst (λ p. CanAskIn (guards_at c.args.now.now.tables.now) (plan_of p) c.requires.asked.scope) c.in-TestOr.is c.requires.asked.can in
+    let can = subst (λ p. CanAskIn (guards_now c.args.now.now) (plan_of p) c.requires.asked.scope) c.in-TestOr.is c.requires.asked.can in
     subst (λ p. Puts c.args.now.now c.args.rule (bound_in c.args.v.now) (plan_of p) c.args.into.now.items c.args.into.now.items) (sym c.in-TestOr.is)
     (test_begins_nothing c.args.now.now c.args.rule (bound_in c.args.v.now) c.in-TestOr.guard (tree_of c.in-TestOr.test.value) c.requires.asked.scope can.0.0 c.requires.asked.fits.binds
     can.0.1 c.in_ok-holds_under-in-TestOr.field-0 c.in_ok-holds_under-in-TestOr.ensures.evaluated c.in-TestOr.node (plan_of c.in-TestOr.body.value) c.if-branch.true
@@ -81,25 +81,25 @@ begin_behind-returns-then-branch t c =
 
 pub begin_behind-told_under-requires-clause-within : goal.begin_behind-told_under-requires-clause-within
 begin_behind-told_under-requires-clause-within t c =
-    let can = subst (λ p. CanAskIn (guards_at c.args.now.now.tables.now) (plan_of p) c.requires.asked.scope) c.in-Guarded.is c.requires.asked.can in
-    within c.args.now.now.tables.now c.in-Guarded.guard (tree_of c.in-Guarded.test.value) c.requires.asked.scope can.0.0
+    let can = subst (λ p. CanAskIn (guards_now c.args.now.now) (plan_of p) c.requires.asked.scope) c.in-Guarded.is c.requires.asked.can in
+    within c.args.now.now c.in-Guarded.guard (tree_of c.in-Guarded.test.value) c.requires.asked.scope can.0.0
 
 pub begin_behind-told_under-requires-clause-binds : goal.begin_behind-told_under-requires-clause-binds
 begin_behind-told_under-requires-clause-binds t c =
-    let can = subst (λ p. CanAskIn (guards_at c.args.now.now.tables.now) (plan_of p) c.requires.asked.scope) c.in-Guarded.is c.requires.asked.can in
-    binds_bound c.args.now.now.tables.now c.in-Guarded.guard (tree_of c.in-Guarded.test.value) c.requires.asked.scope can.0.0 (bound_in c.args.v.now) c.requires.asked.fits.binds
+    let can = subst (λ p. CanAskIn (guards_now c.args.now.now) (plan_of p) c.requires.asked.scope) c.in-Guarded.is c.requires.asked.can in
+    binds_bound c.args.now.now c.in-Guarded.guard (tree_of c.in-Guarded.test.value) c.requires.asked.scope can.0.0 (bound_in c.args.v.now) c.requires.asked.fits.binds
 
 pub begin_behind-begin_under-requires : goal.begin_behind-begin_under-requires
 begin_behind-begin_under-requires t c =
-    let can = subst (λ p. CanAskIn (guards_at c.args.now.now.tables.now) (plan_of p) c.requires.asked.scope) c.in-Guarded.is c.requires.asked.can in
+    let can = subst (λ p. CanAskIn (guards_now c.args.now.now) (plan_of p) c.requires.asked.scope) c.in-Guarded.is c.requires.asked.can in
     let e = c.in_ok-rows-in-Guarded.ensures in (
       search rules,
       (
-        λ row there. subst (λ p. CanAskPlan (guards_at c.args.now.now.tables.now) (plan_of p) (filled_from_row (bound_in c.args.v.now) c.in_ok-rows-in-Guarded.rows.columns row))
+        λ row there. subst (λ p. CanAskPlan (guards_now c.args.now.now) (plan_of p) (filled_from_row (bound_in c.args.v.now) c.in_ok-rows-in-Guarded.rows.columns row))
             (sym c.deref-in-Guarded.ensures)
             (body_can c.args.now.now c.in-Guarded.guard (tree_of c.in-Guarded.test.value) c.requires.asked.scope c.in-Guarded.vars can.0.0 can.0.1 can.0.2 (bound_in c.args.v.now)
             c.requires.asked.fits c.in_ok-rows-in-Guarded.rows e.table e.columns
-            (guards_at c.args.now.now.tables.now) (plan_of c.in-Guarded.body.value) can.1 row there),
+            (guards_now c.args.now.now) (plan_of c.in-Guarded.body.value) can.1 row there),
         (
           subst (λ p. AllByRecursion EndsInTime (nodes (plan_of p))) (sym c.deref-in-Guarded.ensures) (subst (λ p. AllByRecursion EndsInTime (nodes (plan_of p))) c.in-Guarded.is c.requires.ends).1,
           c.requires.in_time,
@@ -123,13 +123,13 @@ pub begin_later-returns-then-low-gt0 : goal.begin_later-returns-then-low-gt0
 begin_later-returns-then-low-gt0 t c =
     subst (λ p. Puts c.args.now.now c.args.rule (bound_in c.args.v.now) (plan_of p) c.args.into.now.items c.push_begun-in-Always.new.into.items) (sym c.in-Always.is)
     (always_later c.args.now.now c.args.rule (bound_in c.args.v.now) c.in-Always.node c.in-Always.place c.in-Always.low c.in-Always.high (plan_of c.in-Always.body.value) c.if-low-gt0.true
-    (subst (λ p. CanAskPlan (guards_at c.args.now.now.tables.now) (plan_of p) (bound_in c.args.v.now)) c.in-Always.is c.requires.asked)
+    (subst (λ p. CanAskPlan (guards_now c.args.now.now) (plan_of p) (bound_in c.args.v.now)) c.in-Always.is c.requires.asked)
     (subst (λ p. AllByRecursion EndsInTime (nodes (plan_of p))) c.in-Always.is c.requires.ends) c.args.into.now.items c.push_begun-in-Always.new.into.items
     c.in_ok-push_begun-in-Always.ensures)
 
 pub begin_later-begin_behind-requires-then-branch-2 : goal.begin_later-begin_behind-requires-then-branch-2
 begin_later-begin_behind-requires-then-branch-2 t c =
-    let can = subst (λ p. CanAskIn (guards_at c.args.now.now.tables.now) (plan_of p) c.requires.asked.scope) c.in-Until.is c.requires.asked.can in
+    let can = subst (λ p. CanAskIn (guards_now c.args.now.now) (plan_of p) c.requires.asked.scope) c.in-Until.is c.requires.asked.can in
     let smaller : length (nodes (plan_of c.deref-then-branch-2.result.now)) < length (nodes (plan_of c.args.plan.now)) =
     subst (λ p. length (nodes (plan_of p)) < length (nodes (plan_of c.args.plan.now))) (sym c.deref-then-branch-2.ensures)
     (subst (λ p. length (nodes (plan_of c.in-Until.right.value)) < length (nodes (plan_of p))) (sym c.in-Until.is)
@@ -137,7 +137,7 @@ begin_later-begin_behind-requires-then-branch-2 t c =
     (plan_of c.in-Until.left.value) (plan_of c.in-Until.right.value))) in (
       omega (arith, smaller),
       (
-        subst (λ p. CanAskPlan (guards_at c.args.now.now.tables.now) (plan_of p) (bound_in c.args.v.now)) (sym c.deref-then-branch-2.ensures)
+        subst (λ p. CanAskPlan (guards_now c.args.now.now) (plan_of p) (bound_in c.args.v.now)) (sym c.deref-then-branch-2.ensures)
             (record { scope = c.requires.asked.scope; can = can.2; fits = c.requires.asked.fits }),
         (
           subst (λ p. AllByRecursion EndsInTime (nodes (plan_of p))) (sym c.deref-then-branch-2.ensures)
@@ -164,7 +164,7 @@ begin_later-returns-then-branch-2 t c =
 
 pub begin_later-begin_behind-requires-in-Until : goal.begin_later-begin_behind-requires-in-Until
 begin_later-begin_behind-requires-in-Until t c =
-    let can = subst (λ p. CanAskIn (guards_at c.args.now.now.tables.now) (plan_of p) c.requires.asked.scope) c.in-Until.is c.requires.asked.can in
+    let can = subst (λ p. CanAskIn (guards_now c.args.now.now) (plan_of p) c.requires.asked.scope) c.in-Until.is c.requires.asked.can in
     let smaller : length (nodes (plan_of c.deref-in-Until.result.now)) < length (nodes (plan_of c.args.plan.now)) =
     subst (λ p. length (nodes (plan_of p)) < length (nodes (plan_of c.args.plan.now))) (sym c.deref-in-Until.ensures)
     (subst (λ p. length (nodes (plan_of c.in-Until.left.value)) < length (nodes (plan_of p))) (sym c.in-Until.is)
@@ -172,7 +172,7 @@ begin_later-begin_behind-requires-in-Until t c =
     (plan_of c.in-Until.left.value) (plan_of c.in-Until.right.value))) in (
       omega (arith, smaller),
       (
-        subst (λ p. CanAskPlan (guards_at c.args.now.now.tables.now) (plan_of p) (bound_in c.args.v.now)) (sym c.deref-in-Until.ensures)
+        subst (λ p. CanAskPlan (guards_now c.args.now.now) (plan_of p) (bound_in c.args.v.now)) (sym c.deref-in-Until.ensures)
             (record { scope = c.requires.asked.scope; can = can.1; fits = c.requires.asked.fits }),
         (
           subst (λ p. AllByRecursion EndsInTime (nodes (plan_of p))) (sym c.deref-in-Until.ensures)
@@ -220,7 +220,7 @@ begin_behind-returns-in-None t c =
 
 pub begin_behind-returns-else-branch : goal.begin_behind-returns-else-branch
 begin_behind-returns-else-branch t c =
-    let can = subst (λ p. CanAskIn (guards_at c.args.now.now.tables.now) (plan_of p) c.requires.asked.scope) c.in-TestOr.is c.requires.asked.can in
+    let can = subst (λ p. CanAskIn (guards_now c.args.now.now) (plan_of p) c.requires.asked.scope) c.in-TestOr.is c.requires.asked.can in
     on_ok_weaker c.begin_behind-in-TestOr.result (λ puts.
     subst (λ p. Puts c.args.now.now c.args.rule (bound_in c.args.v.now) (plan_of p) c.args.into.now.items c.begin_behind-in-TestOr.new.into.items) (sym c.in-TestOr.is)
     (test_begins c.args.now.now c.args.rule (bound_in c.args.v.now) c.in-TestOr.guard (tree_of c.in-TestOr.test.value) c.requires.asked.scope can.0.0 c.requires.asked.fits.binds can.0.1
@@ -231,7 +231,7 @@ begin_behind-returns-else-branch t c =
 
 pub begin_behind-returns-in_ok-rows-in-Guarded : goal.begin_behind-returns-in_ok-rows-in-Guarded
 begin_behind-returns-in_ok-rows-in-Guarded t c =
-    let can = subst (λ p. CanAskIn (guards_at c.args.now.now.tables.now) (plan_of p) c.requires.asked.scope) c.in-Guarded.is c.requires.asked.can in
+    let can = subst (λ p. CanAskIn (guards_now c.args.now.now) (plan_of p) c.requires.asked.scope) c.in-Guarded.is c.requires.asked.can in
     let e = c.in_ok-rows-in-Guarded.ensures in
     on_ok_both c.begin_under.result _ _ _ (λ puts none.
     subst (λ p. Puts c.args.now.now c.args.rule (bound_in c.args.v.now) (plan_of p) c.args.into.now.items c.begin_under.new.into.items) (sym c.in-Guarded.is)
@@ -254,7 +254,7 @@ begin_later-returns-else-low-eq0 t c =
           (subst (λ b. TellsNothing c.args.now.now (plan_of w.deref.result.now) (bound_in c.args.v.now) b) w.if-branch.false w.in_ok-misses_nothing-in-Eventually.ensures))
       | begin_later-else-low-eq0-via-else-low-eq0 w ↦ absurd (omega (arith, at_once, w.if-low-eq0.false))
     ])
-    (subst (λ p. CanAskPlan (guards_at c.args.now.now.tables.now) (plan_of p) (bound_in c.args.v.now)) c.in-Eventually.is c.requires.asked)
+    (subst (λ p. CanAskPlan (guards_now c.args.now.now) (plan_of p) (bound_in c.args.v.now)) c.in-Eventually.is c.requires.asked)
     (subst (λ p. AllByRecursion EndsInTime (nodes (plan_of p))) c.in-Eventually.is c.requires.ends) c.args.into.now.items c.push_begun.new.into.items grown))
     c.push_begun.ensures
 
@@ -264,7 +264,7 @@ begin_later-returns-else-low-gt0 t c =
     subst (λ p. Puts c.args.now.now c.args.rule (bound_in c.args.v.now) (plan_of p) c.args.into.now.items c.begin_behind-in-Always.new.into.items) (sym c.in-Always.is)
     (always_at_once c.args.now.now c.args.rule (bound_in c.args.v.now) c.in-Always.node c.in-Always.place c.in-Always.low c.in-Always.high (plan_of c.in-Always.body.value)
     (λ later. absurd (omega (arith, later, c.if-low-gt0.false)))
-    (subst (λ p. CanAskPlan (guards_at c.args.now.now.tables.now) (plan_of p) (bound_in c.args.v.now)) c.in-Always.is c.requires.asked)
+    (subst (λ p. CanAskPlan (guards_now c.args.now.now) (plan_of p) (bound_in c.args.v.now)) c.in-Always.is c.requires.asked)
     (subst (λ p. AllByRecursion EndsInTime (nodes (plan_of p))) c.in-Always.is c.requires.ends) c.args.into.now.items c.push_begun-in-Always.new.into.items
     c.begin_behind-in-Always.new.into.items c.in_ok-push_begun-in-Always.ensures (subst
     (λ p. Puts c.args.now.now c.args.rule (bound_in c.args.v.now) (plan_of p) c.push_begun-in-Always.new.into.items c.begin_behind-in-Always.new.into.items) c.deref-in-Always.ensures
@@ -282,7 +282,7 @@ begin_later-returns-in_ok-push_begun-in-Until t c =
           (subst (λ b. TellsNothing c.args.now.now (plan_of w.deref-then-low-eq0-2.result.now) (bound_in c.args.v.now) b) w.if-branch-2.false w.in_ok-misses_nothing-in-Until.ensures))
       | begin_later-else-low-eq0-2-via-else-low-eq0-2 w ↦ absurd (omega (arith, at_once, w.if-low-eq0-2.false))
     ])
-    (subst (λ p. CanAskPlan (guards_at c.args.now.now.tables.now) (plan_of p) (bound_in c.args.v.now)) c.in-Until.is c.requires.asked)
+    (subst (λ p. CanAskPlan (guards_now c.args.now.now) (plan_of p) (bound_in c.args.v.now)) c.in-Until.is c.requires.asked)
     (subst (λ p. AllByRecursion EndsInTime (nodes (plan_of p))) c.in-Until.is c.requires.ends) c.args.into.now.items c.push_begun-in-Until.new.into.items
     c.begin_behind-in-Until.new.into.items c.in_ok-push_begun-in-Until.ensures (subst
     (λ p. Puts c.args.now.now c.args.rule (bound_in c.args.v.now) (plan_of p) c.push_begun-in-Until.new.into.items c.begin_behind-in-Until.new.into.items) c.deref-in-Until.ensures
@@ -294,7 +294,7 @@ begin_later-returns-in-Next t c =
     on_ok_weaker c.push_begun-in-Next.result (λ grown.
     subst (λ p. Puts c.args.now.now c.args.rule (bound_in c.args.v.now) (plan_of p) c.args.into.now.items c.push_begun-in-Next.new.into.items) (sym c.in-Next.is)
     (next_begun c.args.now.now c.args.rule (bound_in c.args.v.now) c.in-Next.node c.in-Next.place c.in-Next.high (plan_of c.in-Next.body.value)
-    (subst (λ p. CanAskPlan (guards_at c.args.now.now.tables.now) (plan_of p) (bound_in c.args.v.now)) c.in-Next.is c.requires.asked)
+    (subst (λ p. CanAskPlan (guards_now c.args.now.now) (plan_of p) (bound_in c.args.v.now)) c.in-Next.is c.requires.asked)
     (subst (λ p. AllByRecursion EndsInTime (nodes (plan_of p))) c.in-Next.is c.requires.ends) c.args.into.now.items c.push_begun-in-Next.new.into.items grown))
     c.push_begun-in-Next.ensures
 

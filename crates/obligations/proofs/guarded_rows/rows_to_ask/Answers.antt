@@ -1,4 +1,4 @@
-use Rattle.obligations.proofs.Vocabulary.{◌≡◌, ◌∙◌, ◌↔◌, List, Some, IfSome, ap, sym, subst, inr, Contains, HasNoRepeats, Event, VarId, Valuation, tree_of, plan_of, bound_in, HasValuation}
+use Rattle.obligations.proofs.Vocabulary.{◌≡◌, ◌∙◌, ◌↔◌, List, Some, IfSome, ap, sym, subst, inr, Contains, HasNoRepeats, VarId, Valuation, tree_of, plan_of, bound_in, HasValuation}
 use Rattle.std.specs.List.{filter}
 use Rattle.enf_data.proofs.Lists.{Contains-from_filter}
 use Rattle.monitorable_guard.specs.machine.Answers.{IsMatchOfName}
@@ -63,11 +63,11 @@ returns c =
     let own : suppressed_alone body ≡ Some (name, terms) =
     subst (λ o. IfSome o (λ own. suppressed_alone body ≡ Some (own.0, own.1.now))) c.in-Some.is c.suppressed_bare.ensures in
     let within = c.in_ok-within.within in
-    let matches : (u : Valuation) → HasValuation within u ↔ IsMatchOfName now.events.now name terms v within.columns u =
-    subst (λ (l : List VarId). (u : Valuation) → HasValuation within u ↔ IsMatchOfName now.events.now name terms v l u) (sym c.in_ok-within.ensures.columns)
-    (subst (λ (events : List Event). (u : Valuation) → HasValuation within u ↔ IsMatchOfName events name terms v c.in_ok-columns.columns u) c.as_slice-events.ensures.events
-    c.in_ok-within.ensures.rows) in
+    let all = c.all.result.now in
+    let matches : (u : Valuation) → HasValuation within u ↔ IsMatchOfName all name terms v within.columns u =
+    subst (λ (l : List VarId). (u : Valuation) → HasValuation within u ↔ IsMatchOfName all name terms v l u) (sym c.in_ok-within.ensures.columns)
+    c.in_ok-within.ensures.rows in
     let e = c.in_ok-rows.ensures in
     λ plan is. subst (TellMissing now plan body v) (sym c.of.ensures)
     (told_some now c.args.guard (tree_of c.args.test.now) c.args.vars.now body v plan is c.missing_exists.ensures.missing name terms own within
-    (c.in_ok-within.ensures.columns ∙ same) matches c.in_ok-rows.rows e.table e.columns e.evaluated e.known)
+    (c.in_ok-within.ensures.columns ∙ same) all c.all.ensures matches c.in_ok-rows.rows e.table e.columns e.evaluated e.known)

@@ -1,6 +1,6 @@
 use Rattle.obligations.proofs.Vocabulary.{rules, ◌≡◌, ◌<◌, ◌≤◌, List, length, take, inl, inr, sym, subst, arith, take_all, get_or_from_slice_get, on_ok_weaker, there_from_get, Valuation, Value}
 use Rattle.obligations.proofs.Vocabulary.{tree_of, CausePlan, SuppressPlan, Both, Either, TestOr, AlwaysPlan, UntilPlan, plan_of, bound_in, filled_from_row, AddsList, AddsOf, TellsNothing, CanAskIn}
-use Rattle.obligations.proofs.Vocabulary.{IsWanted, IsWantedUnder, guards_at, Missing, Gathers}
+use Rattle.obligations.proofs.Vocabulary.{IsWanted, IsWantedUnder, guards_now, Missing, Gathers}
 use Rattle.std.specs.Prelude.{true, false, ◌+◌, refl}
 use Rattle.obligations.specs.machine.GuardedRows.{IsGuardedBy}
 use Rattle.obligations.proofs.AdditionLemmas.{adds_as, adds_both, cause_listed, either_nothing, either_right, gathers_one_more, suppress_listed, test_body, test_nothing, until_left, until_nothing}
@@ -18,22 +18,22 @@ push_missing-returns-then-branch-clause-listed t c =
 
 pub push_missing-holds_under-requires-clause-within : goal.push_missing-holds_under-requires-clause-within
 push_missing-holds_under-requires-clause-within t c =
-    let can = subst (λ p. CanAskIn (guards_at c.args.now.now.tables.now) (plan_of p) c.requires.scope) c.in-TestOr.is c.requires.can in
-    within c.args.now.now.tables.now c.in-TestOr.guard (tree_of c.in-TestOr.test.value) c.requires.scope can.0.0
+    let can = subst (λ p. CanAskIn (guards_now c.args.now.now) (plan_of p) c.requires.scope) c.in-TestOr.is c.requires.can in
+    within c.args.now.now c.in-TestOr.guard (tree_of c.in-TestOr.test.value) c.requires.scope can.0.0
 
 pub push_missing-holds_under-requires-clause-binds : goal.push_missing-holds_under-requires-clause-binds
 push_missing-holds_under-requires-clause-binds t c =
-    let can = subst (λ p. CanAskIn (guards_at c.args.now.now.tables.now) (plan_of p) c.requires.scope) c.in-TestOr.is c.requires.can in
-    binds_bound c.args.now.now.tables.now c.in-TestOr.guard (tree_of c.in-TestOr.test.value) c.requires.scope can.0.0 (bound_in c.args.v.now) c.requires.fits.binds
+    let can = subst (λ p. CanAskIn (guards_now c.args.now.now) (plan_of p) c.requires.scope) c.in-TestOr.is c.requires.can in
+    binds_bound c.args.now.now c.in-TestOr.guard (tree_of c.in-TestOr.test.value) c.requires.scope can.0.0 (bound_in c.args.v.now) c.requires.fits.binds
 
 pub push_missing-holds_under-requires-clause-test : goal.push_missing-holds_under-requires-clause-test
 push_missing-holds_under-requires-clause-test t c =
-    let can = subst (λ p. CanAskIn (guards_at c.args.now.now.tables.now) (plan_of p) c.requires.scope) c.in-TestOr.is c.requires.can in
-    is_test c.args.now.now.tables.now c.in-TestOr.guard (tree_of c.in-TestOr.test.value) c.requires.scope can.0.0 can.0.1
+    let can = subst (λ p. CanAskIn (guards_now c.args.now.now) (plan_of p) c.requires.scope) c.in-TestOr.is c.requires.can in
+    is_test c.args.now.now c.in-TestOr.guard (tree_of c.in-TestOr.test.value) c.requires.scope can.0.0 can.0.1
 
 pub push_missing-returns-then-branch-2-clause-listed : goal.push_missing-returns-then-branch-2-clause-listed
 push_missing-returns-then-branch-2-clause-listed t c =
-    let can = subst (λ p. CanAskIn (guards_at c.args.now.now.tables.now) (plan_of p) c.requires.scope) c.in-TestOr.is c.requires.can in
+    let can = subst (λ p. CanAskIn (guards_now c.args.now.now) (plan_of p) c.requires.scope) c.in-TestOr.is c.requires.can in
     subst (λ p. AddsList c.args.now.now (λ trace. Missing trace (plan_of p) (bound_in c.args.v.now)) c.args.out.now.items c.args.out.now.items) (sym c.in-TestOr.is)
     (test_nothing c.args.now.now (bound_in c.args.v.now) c.in-TestOr.guard (tree_of c.in-TestOr.test.value) c.requires.scope can.0.0 c.requires.fits.binds
     c.in-TestOr.node (plan_of c.in-TestOr.body.value) c.args.out.now.items can.0.1 c.in_ok-holds_under-in-TestOr.field-0 c.in_ok-holds_under-in-TestOr.ensures.evaluated c.if-branch-2.true)
@@ -73,7 +73,7 @@ push_missing-returns-else-branch-clause-listed t c =
 
 pub push_missing-returns-else-branch-2-clause-listed : goal.push_missing-returns-else-branch-2-clause-listed
 push_missing-returns-else-branch-2-clause-listed t c =
-    let can = subst (λ p. CanAskIn (guards_at c.args.now.now.tables.now) (plan_of p) c.requires.scope) c.in-TestOr.is c.requires.can in
+    let can = subst (λ p. CanAskIn (guards_now c.args.now.now) (plan_of p) c.requires.scope) c.in-TestOr.is c.requires.can in
     on_ok_weaker c.push_missing-in-TestOr.result (λ adds.
     subst (λ p. AddsList c.args.now.now (λ trace. Missing trace (plan_of p) (bound_in c.args.v.now)) c.args.out.now.items c.push_missing-in-TestOr.new.out.items) (sym c.in-TestOr.is)
     (test_body c.args.now.now (bound_in c.args.v.now) c.in-TestOr.guard (tree_of c.in-TestOr.test.value) c.requires.scope can.0.0 c.requires.fits.binds

@@ -1,5 +1,5 @@
 use Rattle.obligations.proofs.Vocabulary.{IfSome, not, rules, ◌≡◌, ◌<◌, ◌≤◌, List, [], length, inl, inr, sym, subst, arith, take_all, get_or_from_slice_get, IfOk-weaker, Value, tree_of, Both, Either}
-use Rattle.obligations.proofs.Vocabulary.{TestOr, AlwaysPlan, UntilPlan, plan_of, bound_in, filled_from_row, TellsNothing, CanAskIn, IsWanted, IsWantedUnder, guards_at, Missing, Gathers, FirstOf, IsNowOf, Literal, Step}
+use Rattle.obligations.proofs.Vocabulary.{TestOr, AlwaysPlan, UntilPlan, plan_of, bound_in, filled_from_row, TellsNothing, CanAskIn, IsWanted, IsWantedUnder, guards_now, Missing, Gathers, FirstOf, IsNowOf, Literal, Step}
 use Rattle.std.specs.Prelude.{None, Some, false, refl}
 use Rattle.obligations.specs.machine.GuardedRows.{IsGuardedBy}
 use Rattle.obligations.proofs.AdditionLemmas.{gathers_one_more}
@@ -12,12 +12,12 @@ use Rattle.obligations.proofs.missing_first.+finding.Goals as goal
 
 pub find_missing-holds_under-requires-clause-test : goal.find_missing-holds_under-requires-clause-test
 find_missing-holds_under-requires-clause-test t c =
-    let can = subst (λ p. CanAskIn (guards_at c.args.now.now.tables.now) (plan_of p) c.requires.scope) c.in-TestOr.is c.requires.can in
-    is_test c.args.now.now.tables.now c.in-TestOr.guard (tree_of c.in-TestOr.test.value) c.requires.scope can.0.0 can.0.1
+    let can = subst (λ p. CanAskIn (guards_now c.args.now.now) (plan_of p) c.requires.scope) c.in-TestOr.is c.requires.can in
+    is_test c.args.now.now c.in-TestOr.guard (tree_of c.in-TestOr.test.value) c.requires.scope can.0.0 can.0.1
 
 pub find_missing-returns-then-branch-2-clause-first : goal.find_missing-returns-then-branch-2-clause-first
 find_missing-returns-then-branch-2-clause-first t c =
-    let can = subst (λ p. CanAskIn (guards_at c.args.now.now.tables.now) (plan_of p) c.requires.scope) c.in-TestOr.is c.requires.can in
+    let can = subst (λ p. CanAskIn (guards_now c.args.now.now) (plan_of p) c.requires.scope) c.in-TestOr.is c.requires.can in
     subst (λ p. First c.args.now.now (bound_in c.args.v.now) (plan_of p) None) (sym c.in-TestOr.is)
     (test_none c.args.now.now (bound_in c.args.v.now) c.in-TestOr.guard (tree_of c.in-TestOr.test.value) c.requires.scope can.0.0 c.requires.fits.binds c.in-TestOr.node
     (plan_of c.in-TestOr.body.value) can.0.1 c.in_ok-holds_under-in-TestOr.field-0 c.in_ok-holds_under-in-TestOr.ensures.evaluated c.if-branch-2.true)
@@ -48,11 +48,11 @@ find_missing-returns-in-Suppress-clause-wanted t c =
 
 pub find_missing-returns-in-Some-clause-first : goal.find_missing-returns-in-Some-clause-first
 find_missing-returns-in-Some-clause-first t c =
-    let can = subst (λ p. CanAskIn (guards_at c.args.now.now.tables.now) (plan_of p) c.requires.scope) c.in-Both.is c.requires.can in
+    let can = subst (λ p. CanAskIn (guards_now c.args.now.now) (plan_of p) c.requires.scope) c.in-Both.is c.requires.can in
     let first = subst (λ p. First c.args.now.now (bound_in c.args.v.now) (plan_of p) (Some c.in-Some.literal)) c.deref.ensures
     (subst (First c.args.now.now (bound_in c.args.v.now) (plan_of c.deref.result.now)) c.in-Some.is c.in_ok-literal-in-Both.ensures.first) in
     subst (λ p. First c.args.now.now (bound_in c.args.v.now) (plan_of p) (Some c.in-Some.literal)) (sym c.in-Both.is)
-    (left_first c.args.now.now (bound_in c.args.v.now) c.missing_exists.ensures.missing (guards_at c.args.now.now.tables.now) c.in-Both.node (plan_of c.in-Both.left.value)
+    (left_first c.args.now.now (bound_in c.args.v.now) c.missing_exists.ensures.missing (guards_now c.args.now.now) c.in-Both.node (plan_of c.in-Both.left.value)
     (plan_of c.in-Both.right.value) (record { scope = c.requires.scope; can = can.2; fits = c.requires.fits }) c.in-Some.literal first)
 
 pub find_missing-returns-in-Some-clause-wanted : goal.find_missing-returns-in-Some-clause-wanted
@@ -106,7 +106,7 @@ find_missing-returns-else-branch-clause-wanted t c =
 
 pub find_missing-returns-else-branch-2-clause-first : goal.find_missing-returns-else-branch-2-clause-first
 find_missing-returns-else-branch-2-clause-first t c =
-    let can = subst (λ p. CanAskIn (guards_at c.args.now.now.tables.now) (plan_of p) c.requires.scope) c.in-TestOr.is c.requires.can in
+    let can = subst (λ p. CanAskIn (guards_now c.args.now.now) (plan_of p) c.requires.scope) c.in-TestOr.is c.requires.can in
     IfOk-weaker c.find_missing-in-TestOr.result _ (First c.args.now.now (bound_in c.args.v.now) (plan_of c.args.plan.now)) (λ found first.
     subst (λ p. First c.args.now.now (bound_in c.args.v.now) (plan_of p) found) (sym c.in-TestOr.is)
     (test_first c.args.now.now (bound_in c.args.v.now) c.in-TestOr.guard (tree_of c.in-TestOr.test.value) c.requires.scope can.0.0 c.requires.fits.binds c.in-TestOr.node
@@ -169,7 +169,7 @@ find_under-returns-in-Some-clause-first t c =
     let at = sym (get_or_from_slice_get c.args.rows.now.rows c.loop-place.place row row c.row.ensures) in
     λ trace is. gathers_first (λ row. Missing trace (plan_of c.args.body.now) (filled_from_row (bound_in c.args.v.now) c.args.rows.now.columns row)) c.args.rows.now.rows
     c.loop-place.place row c.in-Some.literal below at
-    (λ r there. c.missing_exists.ensures.missing (guards_at c.args.now.now.tables.now) trace (plan_of c.args.body.now) (filled_from_row (bound_in c.args.v.now) c.args.rows.now.columns r)
+    (λ r there. c.missing_exists.ensures.missing (guards_now c.args.now.now) trace (plan_of c.args.body.now) (filled_from_row (bound_in c.args.v.now) c.args.rows.now.columns r)
     (c.requires r there))
     (c.loop-place.invariant trace is)
     (subst (λ v. FirstOf (Missing trace (plan_of c.args.body.now) v) (Some c.in-Some.literal)) inner
@@ -198,7 +198,7 @@ pub misses_nothing-returns-in-Cause : goal.misses_nothing-returns-in-Cause
 misses_nothing-returns-in-Cause t c =
     let v = bound_in c.args.v.now in
     let now = c.args.now.now in
-    let can = subst (λ p. CanAskIn (guards_at now.tables.now) (plan_of p) c.requires.scope) c.in-Cause.is c.requires.can in
+    let can = subst (λ p. CanAskIn (guards_now now) (plan_of p) c.requires.scope) c.in-Cause.is c.requires.can in
     IfOk-weaker c.is_there.result _ (TellsNothing now (plan_of c.args.plan.now) v) (λ there is.
     subst (λ p. TellsNothing now (plan_of p) v there) (sym c.in-Cause.is)
     (cause_tells now v c.in-Cause.node c.in-Cause.place c.in-Cause.name c.in-Cause.terms
@@ -208,7 +208,7 @@ pub misses_nothing-returns-in_ok-is_there-in-Suppress : goal.misses_nothing-retu
 misses_nothing-returns-in_ok-is_there-in-Suppress t c =
     let v = bound_in c.args.v.now in
     let now = c.args.now.now in
-    let can = subst (λ p. CanAskIn (guards_at now.tables.now) (plan_of p) c.requires.scope) c.in-Suppress.is c.requires.can in
+    let can = subst (λ p. CanAskIn (guards_now now) (plan_of p) c.requires.scope) c.in-Suppress.is c.requires.can in
     subst (λ p. TellsNothing now (plan_of p) v (not c.in_ok-is_there-in-Suppress.field-0)) (sym c.in-Suppress.is)
     (suppress_tells now v c.in-Suppress.node c.in-Suppress.place c.in-Suppress.name c.in-Suppress.terms
     (leaf_binds c.requires.scope c.in-Suppress.terms v can c.requires.fits.binds) c.in_ok-is_there-in-Suppress.field-0 c.in_ok-is_there-in-Suppress.ensures)

@@ -1,4 +1,4 @@
-use Rattle.obligations.proofs.Vocabulary.{[], sym, subst, append-nil, nodes, plan_of, bound_in, guards_at, Begun}
+use Rattle.obligations.proofs.Vocabulary.{[], sym, subst, append-nil, nodes, plan_of, bound_in, guards_now, Begun}
 use Rattle.obligations.proofs.ItemLemmas.{none_ahead}
 use Rattle.obligations.proofs.TraceLemmas.{none_begun}
 use Rattle.obligations.proofs.progress_one.begin_ahead.Goals as goal
@@ -13,7 +13,7 @@ returns-then-not-has_future c =
         more = [];
         grown = sym (append-nil c.args.into.now.items);
         are = λ trace is.
-            let begun = c.missing_exists.ensures.begun (guards_at c.args.now.now.tables.now) trace c.args.rule plan v c.requires.asked in
+            let begun = c.missing_exists.ensures.begun (guards_now c.args.now.now) trace c.args.rule plan v c.requires.asked in
             subst (Begun trace c.args.rule plan v) (none_begun trace c.args.rule plan now v begun.0 begun.1) begun.1;
       };
       asked = λ plans stands. tt;

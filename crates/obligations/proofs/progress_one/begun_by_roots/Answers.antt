@@ -1,15 +1,15 @@
-use Rattle.obligations.proofs.Vocabulary.{map, sym, subst, all_at, slice_get-map_at, plan_of, AddsAsked, CanAskPlan, CanAskRoot, guards_at, Begun}
+use Rattle.obligations.proofs.Vocabulary.{map, sym, subst, all_at, slice_get-map_at, plan_of, AddsAsked, CanAskPlan, CanAskRoot, guards_now, Begun}
 use Rattle.obligations.proofs.RootLemmas.{root_asked, root_comes, root_more}
 use Rattle.obligations.proofs.progress_one.begun_by_roots.Goals as goal
 
 pub begin_ahead-requires-clause-asked : goal.begin_ahead-requires-clause-asked
 begin_ahead-requires-clause-asked c =
-    subst (CanAskPlan (guards_at c.args.now.now.tables.now) (plan_of c.index-plans-rule.result)) (sym c.empty-none.ensures)
-    (all_at (CanAskRoot (guards_at c.args.now.now.tables.now)) plan_of c.args.plans.now c.loop-rule.rule c.index-plans-rule.result c.loop-rule-test.true c.index-plans-rule.is c.requires.roots).0
+    subst (CanAskPlan (guards_now c.args.now.now) (plan_of c.index-plans-rule.result)) (sym c.empty-none.ensures)
+    (all_at (CanAskRoot (guards_now c.args.now.now)) plan_of c.args.plans.now c.loop-rule.rule c.index-plans-rule.result c.loop-rule-test.true c.index-plans-rule.is c.requires.roots).0
 
 pub begin_ahead-requires-clause-ends : goal.begin_ahead-requires-clause-ends
 begin_ahead-requires-clause-ends c =
-    (all_at (CanAskRoot (guards_at c.args.now.now.tables.now)) plan_of c.args.plans.now c.loop-rule.rule c.index-plans-rule.result c.loop-rule-test.true c.index-plans-rule.is c.requires.roots).1
+    (all_at (CanAskRoot (guards_now c.args.now.now)) plan_of c.args.plans.now c.loop-rule.rule c.index-plans-rule.result c.loop-rule-test.true c.index-plans-rule.is c.requires.roots).1
 
 pub loop-rule-preserved : goal.loop-rule-preserved
 loop-rule-preserved c =

@@ -1,5 +1,6 @@
-use Rattle.sleepers.proofs.Vocabulary.{◌≡◌, ℕ, List, Contains, nat_eq, sym, subst, dedup, dedup_is, Contains-dedup_nat, Contains-permutation, IsStrictlyIncreasing-dedup}
+use Rattle.sleepers.proofs.Vocabulary.{◌≡◌, ℕ, List, Contains, nat_eq, sym, subst, dedup, dedup_is, Contains-dedup_nat, Contains-permutation, IsStrictlyIncreasing-dedup, IsPermutation-sym}
 use Rattle.sleepers.proofs.Vocabulary.{sorted_from_strictly_increasing, HasNoRepeats}
+use Rattle.std.proofs.lemmas.List.Kept.{Contains-from_dedup}
 use Rattle.sleepers.proofs.PairLemmas.{rising_once}
 use Rattle.sleepers.proofs.wake_index.keep_each_once.Goals as goal
 
@@ -16,3 +17,10 @@ returns-clause-same c = λ n there.
     let left : c.dedup.new.self.items ≡ dedup nat_eq sorted = dedup_is nat_eq sorted c.dedup.new.self.items c.dedup.ensures.filtered in
     subst (λ (l : List ℕ). Contains l n) (sym left)
     (Contains-dedup_nat sorted n (Contains-permutation c.args.numbers.now.items sorted n c.sort_unstable.ensures.permutation there))
+
+pub returns-clause-among : goal.returns-clause-among
+returns-clause-among c = λ n there.
+    let sorted = c.sort_unstable.new.self.items in
+    let left : c.dedup.new.self.items ≡ dedup nat_eq sorted = dedup_is nat_eq sorted c.dedup.new.self.items c.dedup.ensures.filtered in
+    Contains-permutation sorted c.args.numbers.now.items n (IsPermutation-sym c.args.numbers.now.items sorted c.sort_unstable.ensures.permutation)
+    (Contains-from_dedup nat_eq sorted n (subst (λ (l : List ℕ). Contains l n) left there))

@@ -10,16 +10,16 @@ use Rattle.sleepers.specs.machine.Entries.{AllButThose}
 use Rattle.enforcer_core.proofs.step_memory.Remembered.decide.Goals as goal
 
 pub pass-requires-clause-untouched : goal.pass-requires-clause-untouched
-pass-requires-clause-untouched c = (c.as_slice.result.now, (c.in_ok-idle.ensures c.if-idle.true).untouched)
+pass-requires-clause-untouched c = (c.as_slice.result.now, (c.is_idle.ensures c.if-is_idle.true).untouched)
 
-pub returns-then-idle-clause-decided : goal.returns-then-idle-clause-decided
-returns-then-idle-clause-decided c =
+pub returns-then-is_idle-clause-decided : goal.returns-then-is_idle-clause-decided
+returns-then-is_idle-clause-decided c =
     let plans = map plan_of c.args.plans.now in
     let before = c.args.self.now in
     let guards = map placed_guard before.past.guards in
     let inserted = is_inserted c.args.kind in
     let step : Step = record { time = c.args.time; events = c.args.events } in
-    let idle = c.in_ok-idle.ensures c.if-idle.true in
+    let idle = c.is_idle.ensures c.if-is_idle.true in
     let asked = c.requires.can.asked in
     let all : AllAreAsleep guards plans inserted c.args.time c.args.events before.pending = record {
       roots = asked.roots;
@@ -62,8 +62,8 @@ returns-then-idle-clause-decided c =
           };
     }
 
-pub returns-then-idle-clause-can : goal.returns-then-idle-clause-can
-returns-then-idle-clause-can c = λ later least.
+pub returns-then-is_idle-clause-can : goal.returns-then-is_idle-clause-can
+returns-then-is_idle-clause-can c = λ later least.
     let asked = c.requires.can.asked in
     let same = c.pass.ensures.guards in
     record {

@@ -8,7 +8,6 @@ choose_with-requires c =
     let asked = c.requires.can.asked in
     record {
       wakes = c.requires.facts.wakes;
-      batches = c.requires.facts.batches;
       can = record {
         few = asked.few;
         roles = asked.roles;

@@ -1,4 +1,4 @@
-use Rattle.enforcer_core.proofs.Vocabulary.{IsTrue, List, [], ap, arith, length, refl, sym, subst, Instance, IsIdle, IfOk-weaker}
+use Rattle.enforcer_core.proofs.Vocabulary.{List, [], ap, arith, length, refl, sym, subst, Instance}
 use Rattle.pending.specs.machine.Moments.{step_moment}
 use Rattle.pending.specs.machine.Waits.{SleepsNow}
 use Rattle.sleepers.specs.machine.Entries.{AllButThose}
@@ -16,12 +16,8 @@ returns-then-len-eq0 c = λ _.
     }
 
 pub returns : goal.returns
-returns c = IfOk-weaker c.all_sleep.result
-    (λ all. IsTrue all → AllButThose (SleepsNow c.args.events.now (step_moment c.args.inserted c.args.time)) c.args.self.now.pending.listed [])
-    (λ idle. IsTrue idle → IsIdle c.args.wakes.now c.args.self.now c.args.inserted c.args.time c.args.events.now)
-    (λ all sleep yes. record {
-      asleep = c.changes_nothing.ensures.asleep c.if-not-changes_nothing.false;
-      untouched = c.changes_nothing.ensures.untouched c.if-not-changes_nothing.false;
-      sleep = sleep yes;
-    })
-    c.all_sleep.ensures
+returns c = λ _. record {
+  asleep = c.changes_nothing.ensures.asleep c.if-not-changes_nothing.false;
+  untouched = c.changes_nothing.ensures.untouched c.if-not-changes_nothing.false;
+  sleep = c.may_wake.ensures c.if-may_wake.false;
+}

@@ -1,11 +1,11 @@
-use Rattle.pending.proofs.Vocabulary.{◌+◌, ◌∙◌, map, subst, sym, on_ok_weaker, AllByRecursion, on_ok_both, count_entries, plan_of, guards_at, CanAskOf, ArePendingEntries, IsPendingListOf}
+use Rattle.pending.proofs.Vocabulary.{◌+◌, ◌∙◌, map, subst, sym, on_ok_weaker, AllByRecursion, on_ok_both, count_entries, plan_of, guards_now, CanAskOf, ArePendingEntries, IsPendingListOf}
 use Rattle.pending.proofs.EntryLemmas.{listed_items}
 use Rattle.pending.proofs.ProgressLemmas.{asked_behind, can_put, fit_next, goes, kept_later, leads, waits_behind}
 use Rattle.pending.proofs.pending.Pending.progress.Goals as goal
 
 pub carry-requires-clause-asked : goal.carry-requires-clause-asked
 carry-requires-clause-asked c =
-    subst (λ p. AllByRecursion (CanAskOf (guards_at c.args.now.now.tables.now) (map plan_of c.args.plans.now)) p.instances) (sym c.self.view_is) c.requires.instances
+    subst (λ p. AllByRecursion (CanAskOf (guards_now c.args.now.now) (map plan_of c.args.plans.now)) p.instances) (sym c.self.view_is) c.requires.instances
 
 pub carry-requires-clause-held : goal.carry-requires-clause-held
 carry-requires-clause-held c = λ d.

@@ -1,5 +1,0 @@
-use Rattle.obligations.proofs.Vocabulary.{◌≡◌, map, take, AllByRecursion}
-use Rattle.obligations.proofs.empty_guards.has_named.Given as goal
-
-abbrev pub invariant-loop-event : goal.invariant-loop-event
-invariant-loop-event l = AllByRecursion (λ n. n ≡ l.name → ⊥) (map (λ e. e.name) (take l.event-index l.events))

@@ -1,0 +1,9 @@
+use Rattle.obligations.proofs.Vocabulary.{Contains, sym, subst}
+use Rattle.enf_data.proofs.RemovalLemmas.{left_is}
+use Rattle.obligations.proofs.present_events.PresentEvents.may_have.Goals as goal
+
+pub returns : goal.returns
+returns c event there named =
+    c.has_named.ensures event
+    (subst (λ l. Contains l event) (sym c.as_slice.ensures.events)
+    ((left_is c.self.inside.events.now c.self.inside.gone.now event).0 (subst (λ l. Contains l event) (sym c.self.view_is) there)).0) named
