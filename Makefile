@@ -1,6 +1,6 @@
 # enf: a first run, files of one's own, the proved program, the tests.
 
-.PHONY: help demo try build install recipes bench bars collisions environment check trusted test fmt clean service-deps service service-test
+.PHONY: help demo try build install recipes bench bars collisions limits environment refused check trusted test fmt clean service-deps service service-test
 
 help:
 	@echo 'make demo                            enforces the logs of examples/, shows what was changed, and checks two policies'
@@ -11,7 +11,9 @@ help:
 	@echo 'make bench                           measures the proved program on generated logs, and the bars'
 	@echo 'make bars                            measures what must not grow with what is remembered or pending'
 	@echo 'make environment                     runs the proved program where what is around it fails'
+	@echo 'make refused                         runs the proved program with each of its requests for memory refused in turn'
 	@echo 'make collisions                      measures logs whose values collide in a hash with a known seed'
+	@echo 'make limits                          measures the most costly policies that are accepted, and their check'
 	@echo 'make check                           proves every crate, over what earlier checks kept; from nothing it takes hours'
 	@echo 'make trusted                         prints what must be believed of the theorem, and fails where it is too much'
 	@echo 'make test                            proves and tests everything (rt ci, and the service where Go is); from nothing it takes hours'
@@ -46,8 +48,14 @@ bars:
 collisions:
 	@./scripts/collisions.py
 
+limits:
+	@./scripts/limits.py
+
 environment:
 	@./scripts/environment.py
+
+refused:
+	@./scripts/refused.py
 
 check:
 	rt all check

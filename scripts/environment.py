@@ -237,6 +237,14 @@ def with_little_stack(most):
     return lambda program: whole(program.run(before=limited((resource.RLIMIT_STACK, most))))
 
 
+def nested_with_stack(most):
+    """A policy as deep as can be."""
+    def run(program):
+        program.write('policy', 'rule deep: forall u. use(u) -> %sconsent(u);\n' % ('once[0,*] ' * 37))
+        return program.run(before=limited((resource.RLIMIT_STACK, most)))
+    return run
+
+
 def with_little_memory(program):
     """40 MB of addresses, and a log of a million rows that are kept."""
     program.write('log', consents(1000000))
@@ -279,6 +287,8 @@ CASES = [
     Case('SIGSTOP and SIGCONT while a record is awaited', 0, OWED_AT_ONCE, sent(signal.SIGSTOP)),
     Case('256 KB of stack', 0, OWED, with_little_stack(256 * 1024)),
     Case('128 KB of stack', 0, OWED, with_little_stack(128 * 1024)),
+    Case('37 nested once, 512 KB of stack', 0, '', nested_with_stack(512 * 1024)),
+    Case('37 nested once, 128 KB of stack', -signal.SIGSEGV, '', nested_with_stack(128 * 1024)),
     Case('40 MB of memory, and a million rows to keep', 6, 'no memory', with_little_memory),
 ]
 
