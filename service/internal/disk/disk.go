@@ -20,16 +20,17 @@ const (
 	Truncated    Kind = "truncate"
 	Synced       Kind = "sync"
 	Renamed      Kind = "rename"
+	Linked       Kind = "link"
 	Removed      Kind = "remove"
 	FolderMade   Kind = "make folder"
-	FolderSynced Kind = "sync folder" // what was made, renamed and removed in it
+	FolderSynced Kind = "sync folder" // what was made, renamed, linked and removed in it
 )
 
 // Change is a change.
 type Change struct {
 	Kind  Kind
 	Path  string
-	To    string // of a renaming
+	To    string // of a renaming or a link
 	File  *File  // that is opened, written, truncated or synced
 	At    int64  // where it is written, or the size to which it is truncated
 	Bytes []byte
@@ -119,6 +120,11 @@ func Rename(from, to string) error {
 	return Change{Kind: Renamed, Path: from, To: to}.make(func() error { return os.Rename(from, to) })
 }
 
+// Link gives a file another path beside the one that it has.
+func Link(from, to string) error {
+	return Change{Kind: Linked, Path: from, To: to}.make(func() error { return os.Link(from, to) })
+}
+
 // Remove removes a file.
 func Remove(path string) error {
 	return Change{Kind: Removed, Path: path}.make(func() error { return os.Remove(path) })
@@ -139,7 +145,7 @@ func MakeFolder(path string) error {
 	return SyncFolder(above)
 }
 
-// SyncFolder makes lasting what was made, renamed and removed in a folder.
+// SyncFolder makes lasting what was made, renamed, linked and removed in a folder.
 func SyncFolder(path string) error {
 	folder, err := os.Open(path)
 	if err != nil {

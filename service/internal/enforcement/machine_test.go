@@ -94,6 +94,10 @@ func (r *recorder) note(c disk.Change, bytes []byte) {
 		delete(r.paths, c.Path)
 		r.paths[c.To] = number
 		made.file = number
+	case disk.Linked:
+		number := r.paths[c.Path]
+		r.paths[c.To] = number
+		made.file = number
 	case disk.Removed:
 		delete(r.paths, c.Path)
 	}
@@ -138,6 +142,8 @@ func (m *machine) make(e event) {
 		m.pending = append(m.pending, naming{come: e.path, file: e.file})
 	case disk.FolderMade:
 		m.pending = append(m.pending, naming{come: e.path})
+	case disk.Linked:
+		m.pending = append(m.pending, naming{come: e.to, file: e.file})
 	case disk.Renamed:
 		m.pending = append(m.pending, naming{gone: e.path, come: e.to, file: e.file})
 	case disk.Removed:
@@ -181,26 +187,38 @@ func (n naming) apply(folders map[string]map[string]int) {
 // luck says what of that which is not lasting is there all the same.
 type luck struct {
 	name string
-	// names says whether a change of names is there, and data whether a write is: 0 none of it, 1 a part, 2 all.
-	names func() bool
+	// names gives what is there of a change of names, and data says whether a write is: 0 none of it, 1 a part, 2 all.
+	names func(naming) naming
 	data  func() int
 	pick  func(n int) int
 }
 
 func noLuck(int) luck {
-	return luck{"nothing else", func() bool { return false }, func() int { return 0 }, nil}
+	return luck{"nothing else", func(naming) naming { return naming{} }, func() int { return 0 }, nil}
 }
 
 func namesAlone(int) luck {
-	return luck{"all names and no data", func() bool { return true }, func() int { return 0 }, nil}
+	return luck{"all names and no data", func(n naming) naming { return n }, func() int { return 0 }, nil}
 }
 
+// chance leaves some of all. What goes from one folder to another may be lasting in one of them alone.
 func chance(seed int) luck {
 	random := rand.New(rand.NewSource(int64(seed)))
-	return luck{
-		fmt.Sprint("what chance ", seed, " left"),
-		func() bool { return random.Intn(2) == 0 }, func() int { return random.Intn(3) }, random.Intn,
+	names := func(n naming) (left naming) {
+		gone := random.Intn(2) == 0
+		come := gone
+		if n.gone != "" && filepath.Dir(n.gone) != filepath.Dir(n.come) {
+			come = random.Intn(2) == 0
+		}
+		if gone {
+			left.gone = n.gone
+		}
+		if come {
+			left.come, left.file = n.come, n.file
+		}
+		return left
 	}
+	return luck{fmt.Sprint("what chance ", seed, " left"), names, func() int { return random.Intn(3) }, random.Intn}
 }
 
 // image is what is on disk after the power has failed: the contents by their paths below the root.
@@ -213,9 +231,7 @@ func (m *machine) image(l luck) map[string][]byte {
 		}
 	}
 	for _, each := range m.pending {
-		if l.names() {
-			each.apply(folders)
-		}
+		l.names(each).apply(folders)
 	}
 	contents := map[int][]byte{}
 	for file := 1; file <= len(m.files); file++ {

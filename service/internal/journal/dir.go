@@ -53,18 +53,26 @@ func (d Dir) Open(segment int, kind string) (*os.File, error) {
 	return file, nil
 }
 
-// Segments lists the segments of which a log is there, archived or not, in their order.
+// Segments lists the segments of which a log is there, archived or not, in their order. The folder is listed first: what is
+// archived meanwhile is found in the archive then.
 func (d Dir) Segments() ([]int, error) {
+	kept, err := d.Kept(Log)
+	if err != nil {
+		return nil, err
+	}
 	old, err := d.list(archived, Log)
 	if err != nil {
 		return nil, err
 	}
-	last, err := d.Kept(Log)
-	if err != nil {
-		return nil, err
+	all := append(old, kept...)
+	sort.Ints(all)
+	segments := all[:0]
+	for i, segment := range all {
+		// While it is archived a segment is in both.
+		if i == 0 || segment != all[i-1] {
+			segments = append(segments, segment)
+		}
 	}
-	segments := append(old, last...)
-	sort.Ints(segments)
 	return segments, nil
 }
 
@@ -86,22 +94,33 @@ func (d Dir) list(folder, kind string) ([]int, error) {
 	return segments, nil
 }
 
-// Archive puts the files of a segment that is closed into the archive. What was moved already stays there.
+// kinds are the files of a segment that is closed. The log comes last: as long as it is in the folder the segment is not
+// archived.
+var kinds = []string{Mark, Enforced, Report, Labels, Log}
+
+// Archive puts the files of a segment that is closed into the archive. What is there already stays.
+//
+// A folder may become lasting at any time, as another goroutine syncs it: so each file has its name in the archive, and
+// lasting, before it loses the one that it had.
 func (d Dir) Archive(segment int) error {
 	folder := filepath.Join(string(d), archived)
 	if err := disk.MakeFolder(folder); err != nil {
 		return fmt.Errorf("archive: %w", err)
 	}
-	// The log goes last: as long as it is not there the segment is not archived.
-	for _, kind := range []string{Mark, Enforced, Report, Labels, Log} {
+	for _, kind := range kinds {
 		from := d.File(segment, kind)
-		err := disk.Rename(from, filepath.Join(folder, filepath.Base(from)))
-		if err != nil && !errors.Is(err, fs.ErrNotExist) {
+		err := disk.Link(from, filepath.Join(folder, filepath.Base(from)))
+		if err != nil && !errors.Is(err, fs.ErrNotExist) && !errors.Is(err, fs.ErrExist) {
 			return fmt.Errorf("archive: %w", err)
 		}
 	}
 	if err := disk.SyncFolder(folder); err != nil {
 		return err
+	}
+	for _, kind := range kinds {
+		if err := disk.Remove(d.File(segment, kind)); err != nil && !errors.Is(err, fs.ErrNotExist) {
+			return fmt.Errorf("archive: %w", err)
+		}
 	}
 	return disk.SyncFolder(string(d))
 }
