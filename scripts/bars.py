@@ -128,9 +128,9 @@ def requests_then_deletions(n):
     return each('request(U)')(n) + ['@%d %s;\n' % (1 + n + place, event) for place, event in deletions]
 
 
-def of_seconds(seconds, rate):
-    """So many events a second, each a row of its own."""
-    return ('@%d %s;\n' % (1 + second, ' '.join('seen(%s,%d)' % (user(number), second) for number in range(rate)))
+def of_seconds(seconds, rate, order=range):
+    """So many events a second, each a row of its own, in an order of the numbers below."""
+    return ('@%d %s;\n' % (1 + second, ' '.join('seen(%s,%d)' % (user(number), second) for number in order(rate)))
             for second in range(seconds))
 
 
@@ -340,10 +340,12 @@ def memory_of_duties(row, n):
     yield Figure('.drained', 'bytes a duty', n, sizes.in_all / n, None, 850)
 
 
-def rows_of_an_hour(row, n):
+def rows_of_an_hour(order):
     """What each row takes of n a second in the second hour, in which as many go as come."""
-    one, two = (row.cost(of_seconds(3601 * hours, n), 0) for hours in (1, 2))
-    yield Figure('', 'a row', n, (two - one) / (3601 * n), None, 2500)
+    def figures(row, n):
+        one, two = (row.cost(of_seconds(3601 * hours, n, order), 0) for hours in (1, 2))
+        yield Figure('', 'a row', n, (two - one) / (3601 * n), None, 2500)
+    return figures
 
 
 def writes(log):
@@ -409,6 +411,10 @@ TOUCHED = [
         growth(each('collect(U,"mail") agreed(U,"mail")'),
                {'ping': PING, 'agreed': ('use(U)', 0), 'not-agreed': ('collect(V,"mail") use(V)', 1)})),
     Row('prev-once', rules('forall u. use(u) -> prev[0,*] once[0,*] consent(u)'), growth(each('consent(U)'), ASKED)),
+    Row('prev-part', rules('forall u, p. request(u) and prev[0,*] once[0,*] collect(u,p) -> erase(u,p)'),
+        growth(each('collect(U,"mail")'), COLLECTED)),
+    Row('prev-exists', rules('forall u. use(u) -> exists p. prev[0,*] once[0,*] collect(u,p)'),
+        growth(each('collect(U,"mail")'), {'ping': PING, 'known': ('use(U)', 0)})),
     Row('once-once', rules('forall u. use(u) -> once[0,*] once[0,*] consent(u)'), growth(each('consent(U)'), ASKED)),
     Row('join', JOIN, growth(joined(True), changes=lambda n: 1), n=500),
     Row('join-none', JOIN, growth(joined(False)), n=500),
@@ -420,8 +426,10 @@ TOUCHED = [
     Row('window-far-memory', FAR, memory(one_user(lambda n: 1000)), n=500000),
     Row('window-long-memory', rules('forall u. use(u) -> once[0,1000000000] consent(u)'), memory(one_user(lambda n: 1)),
         n=500000),
-    Row('hour', HOUR, rows_of_an_hour, n=100),
-    Row('hour-memory', HOUR, memory_of_one(lambda n: of_seconds(3600, n), 'a row', 200, 3600)),
+    Row('hour', HOUR, rows_of_an_hour(range), n=100),
+    Row('hour-mixed', HOUR, rows_of_an_hour(mixed), n=100),
+    # Two hours, so that rows go as well; those of one are kept.
+    Row('hour-memory', HOUR, memory_of_one(lambda n: of_seconds(7300, n), 'a row', 200, 3600)),
     Row('audit-open', rules('forall u. request(u) -> eventually[0,1000000] delete(u)'), audited),
     Row('audit-twelve', TWELVE, audited_again, n=5000, signature=PERSONAL),
 ]
@@ -448,6 +456,8 @@ WOKEN = [
     duty('later-always', 'forall u. request(u) -> always[500000,1000000] not use(u)', 'request(U)', {'used': ('use(U)', 0)}),
     duty('past-goal-eventually', 'forall u. request(u) -> eventually[0,1000000] ((once[0,*] revoke(u)) or delete(u))',
          'request(U)', {'revoked': ('revoke(U)', 0), 'deleted': ('delete(U)', 0)}),
+    duty('past-goal-within', 'forall u. request(u) -> eventually[0,1000000] ((once[0,500000] revoke(u)) or delete(u))',
+         'request(U)', {'revoked': ('revoke(U)', 0)}),
     duty('past-goal-until', 'forall u. lock(u) -> (not use(u)) until[0,1000000] ((once[0,*] closed(u)) or unlock(u))',
          'lock(U)', {'closed': ('closed(U)', 0), 'used': ('use(U)', 1)}),
     duty('narrow-eventually', 'forall u. request(u) -> eventually[0,1000000] (alarm() and delete(u))', 'request(U)',

@@ -1,5 +1,5 @@
 -- At a step at which nothing is awake nothing is missed, nothing is begun, and what is pending stays as it is.
-use Rattle.choice_step.proofs.Vocabulary.{◌≡◌, ℕ, suc, Bool, List, [], ◌∷◌, ◌++◌, Option, Some, All, ap, map, refl, subst, sym, ◌∙◌, ◌+◌, ◌<◌, length, take, get_or, AllByRecursion, map-append}
+use Rattle.choice_step.proofs.Vocabulary.{◌≡◌, ℕ, suc, Bool, List, [], ◌∷◌, ◌++◌, Option, Some, All, ap, map, refl, subst, sym, ◌∙◌, ◌+◌, ◌<◌, ◌≤◌, length, take, get_or, AllByRecursion, map-append}
 use Rattle.choice_step.proofs.Vocabulary.{take_more, All-contains, AllByRecursion-append, step_at, no_values, Event, NameId, Step, VarId, Formula, Plan, waking_names, last_position, BegunByRoots}
 use Rattle.choice_step.proofs.Vocabulary.{CanAskRoots, UnwokenBeginsNothing, UnwokenMissesNothing, MissesNothing, roots_from, trace_with_step, AllSleep, HasNoneOf, IsAway}
 use Rattle.choice_step.proofs.Vocabulary.{AllButThose, CanAskOf, Contains, Decides, EarlyMissNothing, HasNone, Instance, IsWaitOf, Listed, MissingOfExists, PendingList, SleepersMissNothing}
@@ -9,7 +9,10 @@ use Rattle.choice_step.specs.machine.Laws.{AllAreAsleep}
 use Rattle.obligations.specs.machine.ExistenceLaws.{AfterExists}
 use Rattle.obligations.specs.machine.Parts.{HasPart}
 use Rattle.obligations.specs.machine.Successors.{ComesAt, LeadsAt}
+use Rattle.obligations.specs.machine.PlanClasses.{PlansStand}
 use Rattle.obligations.specs.machine.TriggeredNodes.{IsBegunUnder}
+use Rattle.obligations.specs.machine.UnmetGoals.{AreUnmet, IsUnmetOf}
+use Rattle.trace_meaning.specs.meaning.Traces.{last_time}
 use Rattle.obligations.specs.meaning.Pending.{After, PendingAfter}
 use Rattle.pending.proofs.MomentLemmas.{before_last, not_begun, not_forced, not_later}
 use Rattle.pending.proofs.WakePatternLemmas.{not_over}
@@ -66,12 +69,13 @@ module _ (guards : List (Formula × List VarId)) (plans : List Plan) (inserted :
 
   -- ---- each stays as it is
 
-  module _ (exists : AfterExists) (stay : SleepersStay) (early_stay : EarlyStay) (trace : List Step) where
+  module _ (exists : AfterExists) (stay : SleepersStay) (early_stay : EarlyStay) (stand : PlansStand plans) (trace : List Step) (later : last_time trace ≤ time) where
     abbrev now : List Step
     now = trace_with_step trace time events
 
-    itself : (x : Listed) → CanAskOf guards plans x.instance → IsWaitOf plans x.wait x.instance → Asleep x → After plans now x.instance (x.instance ∷ [])
-    itself x can is asleep =
+    itself : (x : Listed) → CanAskOf guards plans x.instance → IsWaitOf plans x.wait x.instance → Asleep x → IsUnmetOf plans trace x.instance
+        → After plans now x.instance (x.instance ∷ [])
+    itself x can is asleep unmet =
         let i = x.instance in
         let last = last_step trace (record { time = time; events = events }) in
         let at : time_now now ≡ time = ap (λ (s : Step). s.time) last in
@@ -79,8 +83,9 @@ module _ (guards : List (Formula × List VarId)) (plans : List Plan) (inserted :
         let found = exists guards plans now i can in
         let within = not_later inserted time i.high (before_last plans x.wait i (step_moment inserted time) is asleep.in_time) in
         subst (After plans now i) (⊎_elim
-        (λ open_is. stay guards plans now i can (record { patterns = asleep.patterns; wakes = sym (ap (λ (w : Wait). w.patterns) open_is) ∙ asleep.waits; none = none })
-        (not_over (node_of plans i) i (time_now now) (omega (arith, within, at))) found.0 found.1)
+        (λ open_is. stay guards plans trace (record { time = time; events = events }) i stand can
+        (record { patterns = asleep.patterns; wakes = sym (ap (λ (w : Wait). w.patterns) open_is) ∙ asleep.waits; none = none })
+        (not_over (node_of plans i) i (time_now now) (omega (arith, within, at))) later unmet found.0 found.1)
         (λ early_is.
         let before = not_begun inserted time i (subst (λ (w : Wait). step_moment inserted time < w.until) early_is asleep.in_time) in
         early_stay guards plans now i can (record {
@@ -91,9 +96,10 @@ module _ (guards : List (Formula × List VarId)) (plans : List Plan) (inserted :
         }) found.0 found.1) is) found.1
 
     each_stays : (xs : List Listed) → AllByRecursion (CanAskOf guards plans) (listed_instances xs) → AllByRecursion (λ x. IsWaitOf plans x.wait x.instance) xs → AllByRecursion Asleep xs
-        → Gathers (After plans now) (listed_instances xs) (listed_instances xs)
-    each_stays [] can waits asleep = refl
-    each_stays (x ∷ xs) can waits asleep = (x.instance ∷ [], listed_instances xs, itself x can.0 waits.0 asleep.0, each_stays xs can.1 waits.1 asleep.1, refl)
+        → AreUnmet plans trace (listed_instances xs) → Gathers (After plans now) (listed_instances xs) (listed_instances xs)
+    each_stays [] can waits asleep unmet = refl
+    each_stays (x ∷ xs) can waits asleep unmet =
+        (x.instance ∷ [], listed_instances xs, itself x can.0 waits.0 asleep.0 unmet.0, each_stays xs can.1 waits.1 asleep.1 unmet.1, refl)
 
   -- ---- each comes of itself
 
@@ -134,11 +140,13 @@ module _ (guards : List (Formula × List VarId)) (plans : List Plan) (inserted :
     )
 
     pub changes_nothing : AfterExists → SleepersStay → EarlyStay → UnwokenBeginsNothing → (trace : List Step)
+        → PlansStand plans → last_time trace ≤ time → AreUnmet plans trace pending.instances
         → PendingAfter plans (trace_with_step trace time events) pending.instances pending.instances
-    changes_nothing exists stay early_stay unwoken trace = (
+    changes_nothing exists stay early_stay unwoken trace stand later unmet = (
       pending.instances,
       [],
-      subst (λ l. Gathers (After plans (trace_with_step trace time events)) l l) same (each_stays exists stay early_stay trace pending.listed can all.kept.waits asleep),
+      subst (λ l. Gathers (After plans (trace_with_step trace time events)) l l) same
+          (each_stays exists stay early_stay stand trace later pending.listed can all.kept.waits asleep (subst (AreUnmet plans trace) (sym same) unmet)),
       roots_begin guards (trace_with_step trace time events) unwoken 0 plans all.roots (asleep_behind plans trace time events all.rules),
       sym (append-nil pending.instances),
     )

@@ -1,5 +1,6 @@
 pub mod Vocabulary
 pub mod EventEquality
+pub mod EventOrder
 pub mod ListFacts
 pub mod Lists
 pub mod RemovalLemmas

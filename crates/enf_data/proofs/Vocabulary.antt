@@ -34,7 +34,7 @@ pub use Rattle.enf_data.specs.declared.terms.Term.TheVariants.{Const, Var}
 pub use Rattle.enf_data.specs.declared.terms.VarId.{VarId}
 pub use Rattle.enf_data.specs.declared.values.Value.{Value}
 pub use Rattle.enf_data.specs.declared.values.Value.TheVariants.{Num, Text}
-pub use Rattle.enf_data.specs.machine.EventSets.{InsertsEach, InsertsItem, RemovesItem, TakesOutEach, without_events}
+pub use Rattle.enf_data.specs.machine.EventSets.{AreRisingEvents, InsertsEach, InsertsItem, RemovesItem, TakesOutEach, event_order, without_events}
 pub use Rattle.enf_data.specs.machine.ValueTests.{value_eq-Decides}
 pub use Rattle.enf_data.specs.meaning.Data.{step_at}
 pub use Rattle.enf_data.specs.meaning.Membership.{HasNoRepeats, TakesOut}

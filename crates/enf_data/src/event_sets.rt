@@ -7,7 +7,8 @@ ghost use Rattle.std.specs.Vec.{vec_capacity, vec_len};
 ghost use Rattle.indexmap.specs.IndexSet.{spare};
 ghost use Rattle.enf_data.specs.meaning.Membership.{HasNoRepeats};
 ghost use Rattle.enf_data.specs.machine.EventSets.{InsertsItem, InsertsEach, RemovesItem, TakenOutAreGone};
-ghost use Rattle.enf_data.specs.machine.EventSets.{without_events};
+ghost use Rattle.enf_data.specs.machine.EventSets.{AreRisingEvents, without_events};
+ghost use Rattle.enf_data.specs.machine.StoredEvents.{RiseAsSaid, stored_events};
 ghost use Rattle.enf_data.specs.meaning.Values.{has_event};
 
 use crate::events::Event;
@@ -25,15 +26,19 @@ pub struct EventSet {
     events: Stored,
 }
 
-// How many events are searched at most. Above that there is a table.
+// How many events are searched at most. Above that there is a table, or they rise.
 const MOST_SEARCHED: usize = 16;
+
+// How many events are compared by pairs, which for so few costs least.
+const MOST_PAIRED: usize = 4;
 
 type EventTable = IndexSet<Event, Seed>;
 
-// The events of a set: a few, which are searched, or more, with a table.
+// The events of a set: a few, which are searched, some that rise, which their order finds, or more, with a table.
 #[derive(Drop)]
 pub(crate) enum Stored {
     Few(Vec<Event>),
+    Rising(Vec<Event>),
     Many(Box<EventTable>),
 }
 
@@ -41,13 +46,13 @@ impl Model for EventSet {
     ghost use Rattle.std.specs.Prelude.{List};
     ghost use Rattle.enf_data.specs.declared.events.Event.{Event};
     ghost use Rattle.enf_data.specs.meaning.Membership.{HasNoRepeats};
-    ghost use Rattle.enf_data.specs.machine.StoredEvents.{stored_events};
+    ghost use Rattle.enf_data.specs.machine.StoredEvents.{RiseAsSaid, stored_events};
 
     ghost Value = { List Event };
 
     ghost view = { λ s. stored_events s.events };
 
-    ghost invariant = { λ s. HasNoRepeats (stored_events s.events) };
+    ghost invariant = { λ s. HasNoRepeats (stored_events s.events) × RiseAsSaid s.events };
 }
 
 impl EventSet {
@@ -60,11 +65,16 @@ impl EventSet {
         }
     }
 
-    /// The events of a vector, of each the first. Where they are few and none stands twice, it takes no memory. Of more
-    /// the hashes begin from the seed.
+    /// The events of a vector, of each the first. Where they rise, or are few and none stands twice, it takes no
+    /// memory. Of others the hashes begin from the seed.
     pub fn from_vec(alloc: Global, seed: Seed, events: Vec<Event>) -> Result<EventSet, NoMemory>
         ensures { IfOk result (λ set. InsertsEach [] events.items set) }
     {
+        if events.len() > MOST_PAIRED && do_rise(events.as_slice()) {
+            return Ok(EventSet {
+                events: Stored::Rising(events),
+            });
+        }
         if events.len() <= MOST_SEARCHED && are_distinct(events.as_slice()) {
             return Ok(EventSet {
                 events: Stored::Few(events),
@@ -82,9 +92,10 @@ impl EventSet {
         ensures { IfSome result (λ room. room.items ≡ []) }
     {
         match self.events {
-            Stored::Few(mut few) => {
-                few.clear();
-                Some(few)
+            Stored::Few(events) | Stored::Rising(events) => {
+                let mut room = events;
+                room.clear();
+                Some(room)
             }
             Stored::Many(_) => None,
         }
@@ -120,6 +131,11 @@ impl EventSet {
                 self.events = Stored::Many(with_table(seed, few, event)?);
                 Ok(true)
             }
+            Stored::Rising(rising) if is_among_rising(rising.as_slice(), &event) => Ok(false),
+            Stored::Rising(rising) => {
+                self.events = with_last(seed, rising, event)?;
+                Ok(true)
+            }
         }
     }
 
@@ -130,6 +146,7 @@ impl EventSet {
     {
         match &mut self.events {
             Stored::Few(few) => remove_searched(few, event),
+            Stored::Rising(rising) => remove_rising(rising, event),
             Stored::Many(table) => remove_from_table(table, event),
         }
     }
@@ -141,6 +158,7 @@ impl EventSet {
     {
         match &mut self.events {
             Stored::Few(few) => keep_searched(few, gone),
+            Stored::Rising(rising) => keep_rising(rising, gone),
             Stored::Many(table) => keep_in_table(table, gone),
         }
     }
@@ -151,7 +169,18 @@ impl EventSet {
     {
         match &self.events {
             Stored::Few(few) => is_among(few.as_slice(), event),
+            Stored::Rising(rising) => is_among_rising(rising.as_slice(), event),
             Stored::Many(table) => is_in_table(table, event),
+        }
+    }
+
+    /// Whether it is known that each event is before those after it, in the order of names and arguments.
+    pub fn rises(&self) -> bool
+        ensures { IsTrue result → AreRisingEvents self.now }
+    {
+        match &self.events {
+            Stored::Rising(_) => true,
+            Stored::Few(_) | Stored::Many(_) => false,
         }
     }
 
@@ -183,9 +212,39 @@ impl EventSet {
     {
         match &self.events {
             Stored::Few(few) => few.as_slice(),
+            Stored::Rising(rising) => rising.as_slice(),
             Stored::Many(many) => many.as_slice(),
         }
     }
+}
+
+// Whether each event is before those after it.
+fn do_rise(events: &[Event]) -> bool
+    ensures order { IsTrue result → AreRisingEvents events.now }
+    ensures distinct { IsTrue result → HasNoRepeats events.now }
+{
+    events.is_sorted_by(|a, b| a.compare(b).is_lt())
+}
+
+// Where an event stands among others that rise.
+fn place_in_order(events: &[Event], event: &Event) -> Option<usize>
+    requires { AreRisingEvents events.now }
+    ensures some { IfSome result (λ place. slice_get events.now place ≡ Some event.now) }
+    ensures within { IfSome result (λ place. place < length events.now) }
+    ensures none { IfNone result (Contains events.now event.now → ⊥) }
+{
+    match events.binary_search_by(|other| other.compare(event)) {
+        Ok(place) => Some(place),
+        Err(_place) => None,
+    }
+}
+
+// Whether an event is among others that rise.
+fn is_among_rising(events: &[Event], event: &Event) -> bool
+    requires { AreRisingEvents events.now }
+    ensures { IsTrue result ↔ Contains events.now event.now }
+{
+    place_in_order(events, event).is_some()
 }
 
 // Whether no event stands twice.
@@ -279,6 +338,36 @@ fn remove_searched(few: &mut Vec<Event>, event: &Event) -> bool
     }
 }
 
+// Takes an event out of some that rise, and answers whether it was there.
+fn remove_rising(rising: &mut Vec<Event>, event: &Event) -> bool
+    requires { AreRisingEvents rising.old.items }
+    ensures removed { RemovesItem event.now rising.old.items result rising.new.items }
+    ensures order { AreRisingEvents rising.new.items }
+    ensures distinct { HasNoRepeats rising.new.items }
+{
+    match place_in_order(rising.as_slice(), event) {
+        Some(place) => {
+            let _gone = rising.remove(place);
+            true
+        }
+        None => false,
+    }
+}
+
+// Takes the events of a set out of some that rise.
+fn keep_rising(rising: &mut Vec<Event>, gone: &EventSet)
+    requires { AreRisingEvents rising.old.items }
+    ensures removed { rising.new.items ≡ without_events rising.old.items gone.now }
+    ensures order { AreRisingEvents rising.new.items }
+    ensures distinct { HasNoRepeats rising.new.items }
+{
+    rising.retain(
+        |event: &Event| -> bool
+            ensures { result ≡ not (has_event gone.entry.now event.now) }
+        { is_kept(gone, event) },
+    );
+}
+
 // Takes the events of a set out of a few.
 fn keep_searched(few: &mut Vec<Event>, gone: &EventSet)
     requires { HasNoRepeats few.old.items }
@@ -354,6 +443,29 @@ fn with_table(seed: Seed, few: &mut Vec<Event>, event: Event) -> Result<Box<Even
     Ok(table)
 }
 
+// Puts a new event after some that rise, which then need rise no longer. Where memory runs out, they stay, and the new
+// one comes back.
+fn with_last(seed: Seed, rising: &mut Vec<Event>, event: Event) -> Result<Stored, Event>
+    requires distinct { HasNoRepeats rising.old.items }
+    requires absent { Contains rising.old.items event → ⊥ }
+    ensures ok { IfOk result (λ stored. stored_events stored ≡ rising.old.items ++ event ∷ []) }
+    ensures distinct { IfOk result (λ stored. HasNoRepeats (stored_events stored)) }
+    ensures rise { IfOk result RiseAsSaid }
+    ensures value_returned { IfErr result (λ back. back ≡ event) }
+    ensures err { OnErr result (rising.new.items ≡ rising.old.items) }
+{
+    if rising.len() >= MOST_SEARCHED {
+        return Ok(Stored::Many(with_table(seed, rising, event)?));
+    }
+    if make_room(rising).is_err() {
+        return Err(event);
+    }
+    let alloc = *rising.allocator();
+    let mut few = mem::replace(rising, Vec::new(alloc));
+    few.push_reserved(event);
+    Ok(Stored::Few(few))
+}
+
 // Puts an event that is not there last, where there is room.
 fn put(table: &mut EventTable, event: Event)
     requires room { 0 < spare table.old }
@@ -367,22 +479,47 @@ fn put(table: &mut EventTable, event: Event)
     }
 }
 
-// The seed of the hashes, where there are some.
-fn seed_of(stored: &Stored) -> Seed {
+// A copy of a few events.
+fn copy_few(alloc: Global, few: &[Event]) -> Result<Vec<Event>, NoMemory>
+    ensures { IfOk result (λ copy. copy.items ≡ few.now) }
+{
+    let mut copy = Vec::with_capacity(alloc, few.len())?;
+    for event in few {
+        copy.push(event.duplicate(alloc)?)?;
+    }
+    Ok(copy)
+}
+
+// A copy of a table, with its seed.
+fn copy_table(alloc: Global, table: &EventTable) -> Result<Box<EventTable>, NoMemory>
+    requires { HasNoRepeats table.now.keys }
+    ensures { IfOk result (λ copy. copy.value.keys ≡ table.now.keys) }
+{
+    let mut copy = IndexSet::with_capacity_and_hasher(alloc, table.len(), *table.hasher())?;
+    for event in table.as_slice() {
+        insert_in_table(&mut copy, event.duplicate(alloc)?).map_err(|_event| NoMemory)?;
+    }
+    Ok(Box::new(alloc, copy)?)
+}
+
+// A copy of the events, kept as they are.
+fn copy_stored(alloc: Global, stored: &Stored) -> Result<Stored, NoMemory>
+    requires distinct { HasNoRepeats (stored_events stored.now) }
+    requires rise { RiseAsSaid stored.now }
+    ensures same { IfOk result (λ copy. stored_events copy ≡ stored_events stored.now) }
+    ensures rise { IfOk result RiseAsSaid }
+{
     match stored {
-        Stored::Few(_) => Seed::known(),
-        Stored::Many(table) => *table.hasher(),
+        Stored::Few(few) => Ok(Stored::Few(copy_few(alloc, few.as_slice())?)),
+        Stored::Rising(rising) => Ok(Stored::Rising(copy_few(alloc, rising.as_slice())?)),
+        Stored::Many(table) => Ok(Stored::Many(copy_table(alloc, table)?)),
     }
 }
 
 impl Duplicate for EventSet {
     fn duplicate(&self, alloc: Global) -> Result<EventSet, NoMemory> {
-        let seed = seed_of(&self.events);
-        let mut copy = EventSet::new(alloc);
-        for event in self.as_slice() {
-            copy.insert_by(seed, event.duplicate(alloc)?)
-                .map_err(|_event| NoMemory)?;
-        }
-        Ok(copy)
+        Ok(EventSet {
+            events: copy_stored(alloc, &self.events)?,
+        })
     }
 }

@@ -52,7 +52,7 @@ pub fn first_lines(bytes: &[u8], count: usize) -> &[u8] {
             left = left.saturating_sub(1);
         }
     }
-    if left == count { b"" } else { bytes }
+    bytes
 }
 
 /// The numbers of the steps that the lines of a report are about.

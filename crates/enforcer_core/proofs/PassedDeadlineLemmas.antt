@@ -152,7 +152,13 @@ module _ (laws : StepLaws) (policy : StoredTyped) (together : WorkTogether (type
   from_clock = not_before laws policy r clock deadline serves least
 
   of_trace : (trace : List Step) → Stands before trace → RemembersTrace plans r trace
-  of_trace trace stands = record { position = stands.position; last = stands.last; past = stands.past; pending = stands.pending }
+  of_trace trace stands = record {
+    is_trace = stands.is_trace;
+    position = stands.position;
+    last = stands.last;
+    past = stands.past;
+    pending = stands.pending;
+  }
 
   not_later : (trace : List Step) → Stands before trace → last_time trace ≤ deadline
   not_later trace stands = let last = stands.ready.not_later in let le = from_clock in omega (arith, last, le)

@@ -1,7 +1,7 @@
 -- What is begun at an inserted step has a lower class than something that was due; so what can be owed never grows.
-use Rattle.enforcer_core.proofs.Vocabulary.{◌≡◌, ◌⊎◌, ℕ, suc, ◌+◌, ◌*◌, ◌<◌, ◌≤◌, Bool, true, false, cond, List, [], ◌∷◌, ◌++◌, length, map, Contains, Option, None, Some, length-append, refl, sym, ap}
-use Rattle.enforcer_core.proofs.Vocabulary.{subst, ◌∙◌, arith, inl, inr, ⊎_elim, unsigned_Decides, flat_map, cases_lt, false≢true, get_or_append_left, All-contains, All-from_recursion}
-use Rattle.enforcer_core.proofs.Vocabulary.{Contains-append_left, suc-mul, mul-le, same_Some, IsTrace, no_step, step_at, AllByRecursion-contains, AllByRecursion-from_contains, Contains-append}
+use Rattle.enforcer_core.proofs.Vocabulary.{◌≡◌, ◌⊎◌, ℕ, suc, ◌+◌, ◌*◌, ◌<◌, ◌≤◌, Bool, true, false, cond, List, [], ◌∷◌, ◌++◌, length, map, Contains, Option, None, Some, refl, sym, ap}
+use Rattle.enforcer_core.proofs.Vocabulary.{subst, ◌∙◌, arith, inl, inr, ⊎_elim, unsigned_Decides, flat_map, cases_lt, false≢true, All-contains, All-from_recursion}
+use Rattle.enforcer_core.proofs.Vocabulary.{Contains-append_left, suc-mul, mul-le, same_Some, IsTrace, step_at, AllByRecursion-contains, AllByRecursion-from_contains, Contains-append}
 use Rattle.enforcer_core.proofs.Vocabulary.{first_or_later, here, later, none_in_nil, there_from_get, Contains-filter, Contains-from_map, Contains-map, Valuation, no_values, Event, NameId}
 use Rattle.enforcer_core.proofs.Vocabulary.{MOST_INTERVAL_END, Step, last_time, most_time, Inserted, LastIsAtTheEnd, AllEndLater, EndsLater, EndsInTime, AreWellFormed, IsWellFormed, has_deadline}
 use Rattle.enforcer_core.proofs.Vocabulary.{nodes, window_end, Plan, CausePlan, SuppressPlan, Both, Either, TestOr, Guarded, EventuallyPlan, AlwaysPlan, UntilPlan, NextPlan, NodesStandIn, IsRank}
@@ -14,6 +14,7 @@ use Rattle.enforcer_core.proofs.Vocabulary.{NoneGoesOver, ReachIsWithinHorizon, 
 use Rattle.std.proofs.Common.{slice_get}
 use Rattle.enforcer_core.proofs.ClassLemmas.{class_below, class_higher, greatest_is, greatest_within, in_flat, least, least_behind, nodes_in}
 use Rattle.enforcer_core.proofs.TriggerLemmas.{AreOwed, Ends, IsAsked, IsDue, anew_asked, behind_event, decided_owed, due_asked, ends_now, has_node, last_step, root_asked}
+use Rattle.obligations.proofs.UnmetGoalLemmas.{front_not_later}
 
 -- ---- reach
 
@@ -136,18 +137,6 @@ ordered_window trace rule (Both n l r) i begins ends = absurd begins
 ordered_window trace rule (Either n l r) i begins ends = absurd begins
 ordered_window trace rule (TestOr n guard test body) i begins ends = absurd begins
 ordered_window trace rule (Guarded n xs guard test body) i begins ends = absurd begins
-
--- a front of a trace does not end after it
-front_not_later : LastIsAtTheEnd → (trace front more : List Step) → IsTrace trace → front ++ more ≡ trace → 0 < length front
-    → time_now front ≤ last_time trace
-front_not_later last trace front more is_trace splits some =
-    let long : length front ≤ length trace = omega (arith, ap length splits, length-append front more) in
-    let at : step_at trace (last_position front) ≡ step_at front (last_position front) =
-    ap (λ (l : List Step). step_at l (last_position front)) (sym splits)
-    ∙ get_or_append_left front more no_step (last_position front) (omega (arith, some)) in
-    let end : last_time trace ≡ (step_at trace (last_position trace)).time = last trace (last_position trace) (omega (arith, some, long)) in
-    let rises = is_trace.ordered (last_position front) (last_position trace) (omega (arith, long)) (omega (arith, some, long)) in
-    omega (arith, rises, end, ap (λ (s : Step). s.time) at)
 
 -- ---- deadlines
 

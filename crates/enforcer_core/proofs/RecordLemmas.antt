@@ -55,7 +55,13 @@ module _ (laws : StepLaws) (policy : StoredTyped) (r r' : Remembered) (from midd
     after = enforcing_at policy r'' time
 
     of_trace : (trace : List Step) → Stands (enforcing_at policy r' time) trace → RemembersTrace plans r' trace
-    of_trace trace stands = record { position = stands.position; last = stands.last; past = stands.past; pending = stands.pending }
+    of_trace trace stands = record {
+      is_trace = stands.is_trace;
+      position = stands.position;
+      last = stands.last;
+      past = stands.past;
+      pending = stands.pending;
+    }
 
     goes : (trace : List Step) → Stands (enforcing_at policy r' time) trace → GoesOut plans trace System time events (acted_step o)
     goes trace stands = decided.goes_out trace (of_trace trace stands) stands.ready.not_later

@@ -4,7 +4,7 @@ pub use Rattle.std.proofs.Common.{length-append, map, nat_eq, nat_lt, refl, subs
 pub use Rattle.std.proofs.Common.{◌∷◌, ◌≡◌, ◌≤◌, ◌⊎◌}
 pub use Rattle.std.proofs.Math.Nat.{suc-mul}
 pub use Rattle.std.proofs.lemmas.Bool.{cases_lt, eqb-true, false≢true}
-pub use Rattle.std.proofs.lemmas.List.{append-nil, get_or-take, get_or_append_left, get_or_past, length-map, length-take-le, map-append, take_all}
+pub use Rattle.std.proofs.lemmas.List.{append-nil, get_or-take, get_or_past, length-map, length-take-le, map-append, take_all}
 pub use Rattle.std.proofs.lemmas.List.Elements.{All-append, All-cons, All-contains, All-from_recursion, All-head, All-nil, All-tail, All-weaker, Contains-append_left, Contains-append_right}
 pub use Rattle.std.proofs.lemmas.List.Elements.{recursion_from_All}
 pub use Rattle.std.proofs.lemmas.List.Folds.{list_any-append}

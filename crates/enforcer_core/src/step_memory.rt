@@ -33,7 +33,7 @@ use enf_data::memory::NoMemory;
 use enforce_types::TypedPolicy;
 use monitorable_guard::StepEvents;
 use obligations::laws::{
-    now_stands, pending_exists, pending_is_enough, pending_was_begun, traces_grow,
+    now_stands, pending_exists, pending_is_enough, pending_is_unmet, pending_was_begun, traces_grow,
 };
 use obligations::{Now, PresentEvents};
 use past_state::{PastState, Tables};
@@ -86,6 +86,7 @@ impl Remembered {
     {
         traces_grow();
         trace_grows();
+        pending_is_unmet();
         asleep_is_idle();
         let inserted = is_inserted(kind);
         if self.is_idle(&facts.wakes, events.as_slice(), time, inserted) {
@@ -426,6 +427,7 @@ impl Remembered {
             (CanAskOf (map placed_guard self.old.past.guards) (map plan_of plans.now)) self.new.pending.instances) }
     {
         now_stands();
+        pending_is_unmet();
         let gone = EventSet::new(alloc);
         let events = PresentEvents::of(ordered.set(), &gone);
         let now = Now {

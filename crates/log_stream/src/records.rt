@@ -2,6 +2,7 @@
 ghost use Rattle.std.specs.Prelude.{◌≡◌, ◌↔◌, ◌<◌, ◌≤◌, ◌+◌, ◌++◌, ◌∷◌, [], ℕ};
 ghost use Rattle.std.specs.Prelude.{List, IfErr, IfOk, IfSome, IsTrue, None, OnOk, Result, Some, length, slice_get};
 ghost use Rattle.std.specs.Option.{option_map, option_or};
+ghost use Rattle.std.specs.Str.{bytes_eq};
 ghost use Rattle.signature.specs.meaning.Columns.{has_sort};
 ghost use Rattle.signature.specs.meaning.Grammar.{name_number};
 ghost use Rattle.signature.specs.declared.entries.NameEntry.{NameEntry as AnyEntry};
@@ -23,6 +24,9 @@ use enf_data::{Event, EventSet, NameId, NoMemory, Place, Row, Seed, Value};
 use signature::{NameEntry, Signature, Sort};
 use std::alloc::Global;
 use trace_meaning::StepKind;
+
+// Of more events than these most have the name of the one before.
+const MOST_MIXED: usize = 4;
 
 // The greatest time of a step.
 fn most_time(kind: StepKind) -> u64
@@ -114,11 +118,56 @@ fn read_row(
     }
 }
 
-// A name of the signature, with its entry.
-fn declared<'a>(signature: &'a Signature, name: &[u8]) -> Option<(NameId, &'a NameEntry)>
+// Whether the entry has the name.
+fn is_named(entry: &NameEntry, name: &[u8]) -> bool
+    ensures { result ≡ bytes_eq entry.now.text name.now }
+{
+    entry.text.bytes() == name
+}
+
+// The name of an event, with its entry, where it is this one.
+fn declared_as<'a>(
+    signature: &'a Signature,
+    event: &Event,
+    name: &[u8],
+) -> Option<(NameId, &'a NameEntry)>
+    ensures entry { IfSome result (λ found. entry_of_name signature.now name.now ≡ Some found.1.now) }
+    ensures number { IfSome result (λ found. name_number signature.now name.now ≡ Some found.0.0) }
+{
+    // Its clause says that no name stands twice.
+    let _count = signature.len();
+    let Some(entry) = signature.entry(event.name) else {
+        return None;
+    };
+    if is_named(entry, name) {
+        Some((event.name, entry))
+    } else {
+        None
+    }
+}
+
+// The event whose name is looked at first for the next one: the last of many, most of which have one name.
+fn likely(events: &[Event]) -> Option<&Event> {
+    if events.len() < MOST_MIXED {
+        return None;
+    }
+    events.last()
+}
+
+// A name of the signature, with its entry. Where it is that of an event before, it is not sought.
+fn declared<'a>(
+    signature: &'a Signature,
+    before: Option<&Event>,
+    name: &[u8],
+) -> Option<(NameId, &'a NameEntry)>
     ensures entry { option_map (λ found. found.1.now) result ≡ entry_of_name signature.now name.now }
     ensures number { IfSome result (λ found. name_number signature.now name.now ≡ Some found.0.0) }
 {
+    if let Some(event) = before {
+        if let Some(found) = declared_as(signature, event, name) {
+            return Some(found);
+        }
+    }
     let number = signature.find(name)?;
     let entry = signature.entry(number)?;
     Some((number, entry))
@@ -177,7 +226,11 @@ fn read_event(
     let Some(inside) = behind_mark(bytes, next, b'(') else {
         return Err(bad_at(next));
     };
-    let (name, sorts): (NameId, &[Sort]) = match declared(signature, name) {
+    let (name, sorts): (NameId, &[Sort]) = match declared(
+        signature,
+        likely(events.as_slice()),
+        name,
+    ) {
         Some((number, entry)) => (number, entry.sorts.as_slice()),
         None => {
             keep_first(

@@ -6,7 +6,12 @@ use Rattle.monitorable_guard.proofs.Vocabulary.{nat_cmp, ordering_then, is_lt, O
 use Rattle.monitorable_guard.proofs.Vocabulary.{Event, NameId, Term, Value, listed_values, values_listed, same_name, IsEventAmong, key_cmp, row_cmp_total, key_cmp_total, key_cmp_exact, same_order}
 use Rattle.monitorable_guard.proofs.Vocabulary.{found_tells, Contains-map, Contains-from_map, name_of, key_of, event_cmp, shown_events, IsByName}
 use Rattle.monitorable_guard.specs.machine.EventOrder.{BeginAsKnown, leading_known}
+use Rattle.enf_data.proofs.EventOrder.{event_order_total}
+use Rattle.enf_data.proofs.RisingLists.{sorted_from_strict}
+use Rattle.enf_data.specs.machine.EventSets.{AreRisingEvents, event_order}
 use Rattle.enf_data.specs.meaning.Values.{value_cmp, row_cmp}
+use Rattle.std.proofs.lemmas.List.{get_or-map, length-map}
+use Rattle.std.specs.Prelude.{◌<◌}
 use Rattle.monitorable_guard.proofs.MatchLemmas.{value_of-extends}
 use Rattle.std.specs.declared.cmp.Ordering.TheVariants.{Less, Equal}
 
@@ -83,6 +88,20 @@ sorted_by_name events given sorted all permuted order =
         λ there. Contains-permutation (shown_events given) (shown_events sorted) event moved (subst (λ l. Contains l event) (sym all) there),
       );
     }
+
+-- events that rise are they by their names as they are
+pub rising_by_name : (events : List Event) (given : List (Bor Event)) → shown_events given ≡ events → AreRisingEvents events → IsByName events given
+rising_by_name events given all rise = record {
+  order = λ k d low within.
+      let show = λ (event : Bor Event). event.now in
+      let long : length (shown_events given) ≡ length given = length-map given show in
+      let below : k < length given = omega (arith, within) in
+      let falls = sorted_from_strict event_order_total (shown_events given) (subst AreRisingEvents (sym all) rise) k d.now low (omega (arith, within, long)) in
+      let next = get_or-map show given (k + 1) d d.now within in
+      let this = get_or-map show given k d d.now below in
+      subst (λ e. is_lt (event_order e (get_or given k d).now) ≡ false) next (subst (λ e. is_lt (event_order (get_or (shown_events given) (k + 1) d.now) e) ≡ false) this falls);
+  same = λ event. (λ there. subst (λ l. Contains l event) all there, λ there. subst (λ l. Contains l event) (sym all) there);
+}
 
 -- ---- events that begin with values
 

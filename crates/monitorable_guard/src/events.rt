@@ -3,6 +3,7 @@ ghost use Rattle.std.specs.Prelude.{◌≡◌, ◌↔◌, ◌≤◌, IfOk, IsTru
 ghost use Rattle.std.specs.List.Sorted.{IsSortedByKey};
 ghost use Rattle.std.specs.Ordering.{nat_cmp, ordering_then};
 ghost use Rattle.enf_formula.specs.meaning.Satisfaction.{IsEventAmong};
+ghost use Rattle.enf_data.specs.machine.EventSets.{AreRisingEvents};
 ghost use Rattle.enf_data.specs.meaning.Values.{row_cmp};
 ghost use Rattle.enf_data.specs.meaning.Valuations.{value_of_term, values_of_terms};
 ghost use Rattle.enf_data.specs.declared.events.Event.{Event as AnyEvent};
@@ -62,7 +63,7 @@ impl<'a> StepEvents<'a> {
     pub fn of(alloc: Global, events: &'a EventSet) -> Result<StepEvents<'a>, NoMemory>
         ensures { IfOk result (λ step. step ≡ events.now) }
     {
-        let by_name = in_order(alloc, events.as_slice())?;
+        let by_name = in_order(alloc, events.as_slice(), events.rises())?;
         Ok(StepEvents { events, by_name })
     }
 
@@ -114,8 +115,9 @@ fn order_of<'s, 'a>(by_name: &'s ByName<'a>) -> &'s [&'a Event]
     }
 }
 
-// The events in the order of their names and arguments.
-fn in_order<'a>(alloc: Global, events: &'a [Event]) -> Result<ByName<'a>, NoMemory>
+// The events in the order of their names and arguments, in which they are where they rise.
+fn in_order<'a>(alloc: Global, events: &'a [Event], rise: bool) -> Result<ByName<'a>, NoMemory>
+    requires { IsTrue rise → AreRisingEvents events.now }
     ensures has { IfOk result HasItsEvents }
     ensures order { IfOk result (λ order. IsByName events.now (listed order)) }
 {
@@ -123,7 +125,7 @@ fn in_order<'a>(alloc: Global, events: &'a [Event]) -> Result<ByName<'a>, NoMemo
         Some(first) if events.len() <= MOST_IN_PLACE => {
             Ok(ByName::Few(few_in_order(first, events)))
         }
-        _ => Ok(ByName::Many(many_in_order(alloc, events)?)),
+        _ => Ok(ByName::Many(many_in_order(alloc, events, rise)?)),
     }
 }
 
@@ -144,13 +146,21 @@ fn few_in_order<'a>(any: &'a Event, events: &'a [Event]) -> FewEvents<'a>
     }
 }
 
-// Many events in the order of their names and arguments.
-fn many_in_order<'a>(alloc: Global, events: &'a [Event]) -> Result<Vec<&'a Event>, NoMemory>
+// Many events in the order of their names and arguments, in which they are where they rise.
+fn many_in_order<'a>(
+    alloc: Global,
+    events: &'a [Event],
+    rise: bool,
+) -> Result<Vec<&'a Event>, NoMemory>
+    requires { IsTrue rise → AreRisingEvents events.now }
     ensures { IfOk result (λ order. IsByName events.now order.items) }
 {
     let mut order = Vec::with_capacity(alloc, events.len())?;
     for event in events {
         order.push(event)?;
+    }
+    if rise {
+        return Ok(order);
     }
     order.sort_unstable_by(|a, b| compare_events(a, b));
     Ok(order)
@@ -160,10 +170,7 @@ fn compare_events(a: &Event, b: &Event) -> Ordering
     ensures { result ≡ ordering_then (nat_cmp a.now.name.0 b.now.name.0)
         (row_cmp a.now.args b.now.args) }
 {
-    match a.name.0.cmp(&b.name.0) {
-        Ordering::Equal => a.args.compare(&b.args),
-        apart => apart,
-    }
+    a.compare(b)
 }
 
 // The order of an event and one of the name whose arguments are the values of the terms.

@@ -230,6 +230,10 @@ fn next_place(alloc: Global, left: &[Conjunct<'_>], scope: &[VarId]) -> Result<u
     let mut next = 0;
     let mut least = reach_of(alloc, left[0].formula, scope)?;
     for place in 1..left.len() {
+        // Nothing is less, and most of many events of the same variables come to this.
+        if least == Reach::Test {
+            return Ok(next);
+        }
         let formula = left[place].formula;
         let reach = reach_of(alloc, formula, scope)?;
         if reach < least && is_safe(alloc, formula, scope)? {

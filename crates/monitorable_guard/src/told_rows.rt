@@ -1,10 +1,12 @@
 //! The rows of a formula that begins with an event: the arguments of events under which it holds.
-ghost use Rattle.std.specs.Prelude.{◌↔◌, ◌<◌, ◌^◌, Contains, IfOk, IsTrue, OnOk, length};
+ghost use Rattle.std.specs.Prelude.{◌≡◌, ◌↔◌, ◌<◌, ◌^◌, Contains, IfOk, IsTrue, OnOk, length};
+ghost use Rattle.enf_data.specs.declared.events.Event.{Event as AnyEvent};
 ghost use Rattle.enf_formula.specs.machine.FormulaViews.{tree_of};
 ghost use Rattle.valuations.specs.machine.Bindings.{bound_in};
 ghost use Rattle.valuations.specs.machine.Tables.{IsTable};
 ghost use Rattle.monitorable_guard.specs.machine.Answers.{AddsRows, AreOpenUnder, CanAskFormula, HasAnswers};
 ghost use Rattle.monitorable_guard.specs.machine.Answers.{IsBoundBy, IsGuardAnswer};
+ghost use Rattle.monitorable_guard.specs.machine.EventOrder.{shown_events};
 ghost use Rattle.monitorable_guard.specs.machine.NeededEvents.{BeginsWithEvent, HoldsForArguments, first_conjunct};
 ghost use Rattle.monitorable_guard.specs.machine.PresentMeaning.{HoldsNow};
 ghost use Rattle.monitorable_guard.specs.meaning.Safety.{FreeWithin};
@@ -41,7 +43,8 @@ pub fn rows_told<'a, P: Past>(
     let Some(name) = event_of_columns(formula, columns.as_slice()) else {
         return rows_over(alloc, present, formula, 0, scope, columns);
     };
-    let mut found = Vec::new(alloc);
+    let named = present.events.named(name);
+    let mut found = Vec::with_capacity(alloc, named.len())?;
     gather_told(
         alloc,
         present,
@@ -49,12 +52,13 @@ pub fn rows_told<'a, P: Past>(
         scope,
         columns.as_slice(),
         name,
+        named,
         &mut found,
     )?;
     Table::from_rows(columns, found)
 }
 
-// Adds the arguments of those events of the name, as many as the columns, under which the formula holds.
+// Adds the arguments of those of the named events, as many as the columns, under which the formula holds.
 fn gather_told<'a, P: Past>(
     alloc: Global,
     present: &Present<'_, '_, '_, P>,
@@ -62,8 +66,11 @@ fn gather_told<'a, P: Past>(
     scope: &'a Frame<'a>,
     columns: &[VarId],
     name: NameId,
+    named: &[&Event],
     out: &mut Vec<Row>,
 ) -> Result<(), NoMemory>
+    requires named { (event : AnyEvent) → Contains (shown_events named.now) event
+        ↔ (Contains present.now.events.now event × (event.name ≡ name)) }
     requires few { length (P.tables present.now.past.now) < 2 ^ 64 }
     requires ask { CanAskFormula (bound_in scope.now) (P.tables present.now.past.now) (tree_of formula.now) }
     requires open { AreOpenUnder (bound_in scope.now) (tree_of formula.now) columns.now }
@@ -72,7 +79,7 @@ fn gather_told<'a, P: Past>(
         (IsGuardAnswer present.now.events.now (P.tables present.now.past.now) (bound_in scope.now)
         (tree_of formula.now) columns.now)) }
 {
-    for event in present.events.named(name) {
+    for event in named {
         gather_if_told(alloc, present, formula, scope, columns, event, out)?;
     }
     Ok(())

@@ -41,6 +41,7 @@ pub mod TraceLemmas
 pub mod TriggeredGuardLemmas
 pub mod TriggeredNodeLemmas
 pub mod UniquenessLemmas
+pub mod UnmetGoalLemmas
 pub mod UnreadInstanceLemmas
 pub mod UnreadNameLemmas
 pub mod UnreadRestLemmas

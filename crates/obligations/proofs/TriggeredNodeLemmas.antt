@@ -4,10 +4,10 @@ use Rattle.obligations.proofs.Vocabulary.{inl, inr, ⊎_elim, length-take-le, ta
 use Rattle.obligations.proofs.Vocabulary.{AllByRecursion-contains, AllByRecursion-from_contains, Contains-append, first_or_later, here, later, none_in_nil, Valuation, no_values, values_of_terms}
 use Rattle.obligations.proofs.Vocabulary.{with_values, Event, NameId, Step, Term, VarId, Value, as_many_values, Formula, GuardLooksBack, has_future, nodes, node_number, node_in, Plan, CausePlan}
 use Rattle.obligations.proofs.Vocabulary.{SuppressPlan, Both, Either, TestOr, Guarded, EventuallyPlan, AlwaysPlan, UntilPlan, NextPlan, triggers, FoundIsFirst, TriggersAreMet, IsNodeByNumber}
-use Rattle.obligations.proofs.Vocabulary.{StandsIn, from_one, Begun, BeginsAlways, BeginsOrWaits, LacksNothing, WithBehind, begun_now, time_now, Missing, MissesAlways, MissesUntil, IsAbsent}
+use Rattle.obligations.proofs.Vocabulary.{StandsIn, from_one, Begun, BeginsAlways, BeginsOrWaits, LacksNothing, LacksSome, WithBehind, begun_now, time_now, Missing, MissesAlways, MissesUntil, IsAbsent}
 use Rattle.obligations.proofs.Vocabulary.{IsPresent, LiteralUnless, OfEvent, cause_literal, suppress_literal, AreGuardRows, HoldsLast, last_position, After, AtNode, BecomesAt, PendingAfter}
 use Rattle.obligations.proofs.Vocabulary.{PendsBehind, node_of, BegunIsNamed, BegunIsReached, MissedIsReached, ReachedIsInside, IsBegunBy, IsBegunIn, IsMissedIn, IsReached, last_events, IsBegunAt}
-use Rattle.obligations.proofs.Vocabulary.{IsReachedBy, begun_at, PendCame, PendingWasBegun, PlansStand, Instance, Literal}
+use Rattle.obligations.proofs.Vocabulary.{IsReachedBy, begun_at, IsNowIn, PendCame, PendingWasBegun, PlansStand, Instance, Literal}
 use Rattle.obligations.proofs.ReachWidening.{AreMetAtLast}
 use Rattle.obligations.proofs.GatheredLists.{BegunByRoots-contains, Gathers-contains}
 use Rattle.obligations.proofs.SoundnessLemmas.{taken}
@@ -17,12 +17,30 @@ use Rattle.obligations.proofs.TraceLemmas.{shorter_pends, stands_found, whole}
 
 -- ---- what is in lists
 
-none_there : {X : Type 0} (x : X) (xs : List X) → xs ≡ [] → Contains xs x → ⊥
+pub none_there : {X : Type 0} (x : X) (xs : List X) → xs ≡ [] → Contains xs x → ⊥
 none_there {X} x xs none there = none_in_nil x (subst (λ (l : List X). Contains l x) none there)
 
 only : {X : Type 0} (x y : X) (xs : List X) → xs ≡ y ∷ [] → Contains xs x → y ≡ x
 only {X} x y xs are there =
     ⊎_elim (λ same. same) (λ none. absurd (none_in_nil x none)) (first_or_later x y [] (subst (λ (l : List X). Contains l x) are there))
+
+-- ---- goals
+
+-- something is lacking of what a window is open for from its beginning
+abbrev pub LacksAtOnce : List Step → (low : ℕ) → Plan → Valuation → Type 0
+LacksAtOnce trace zero goal v = LacksSome trace goal v
+LacksAtOnce trace (suc low) goal v = Unit {0}
+
+-- so it is with the goal of a node
+abbrev pub LacksAt : List Step → Plan → Instance → Type 0
+LacksAt trace (EventuallyPlan node place low high body) i = LacksAtOnce trace low body i.valuation
+LacksAt trace (UntilPlan node place low high left right) i = LacksAtOnce trace low right i.valuation
+LacksAt trace node i = Unit {0}
+
+-- the instance is begun by an operator of the plan that is reached at the last position, and lacks something of its goal
+-- where that was looked at
+abbrev pub IsBegunLacking : List Step → (rule : ℕ) → Plan → Instance → Type 0
+IsBegunLacking trace rule plan i = (node : Plan) × IsReached trace plan node × IsBegunBy trace rule node i × LacksAt trace node i
 
 -- ---- triggers that are met
 
@@ -128,15 +146,15 @@ module _ (triggers_are_met : TriggersAreMet) (trace : List Step) where
   -- ---- what is begun
 
   module _ (rule : ℕ) where
-    begun_inside : (part whole : Plan) (i : Instance) → Inside part whole → IsBegunIn trace rule part i → IsBegunIn trace rule whole i
-    begun_inside part whole i inside (node, reached, is) = (node, inside node reached, is)
+    begun_inside : (part whole : Plan) (i : Instance) → Inside part whole → IsBegunLacking trace rule part i → IsBegunLacking trace rule whole i
+    begun_inside part whole i inside (node, reached, is, lacks) = (node, inside node reached, is, lacks)
 
     -- at an operator, one side of which is begun in its place where its window begins at once
     begun_or_waits : (low : ℕ) (body : Plan) (v : Valuation) (Begins Waits Wanted : Type 0)
-        → BeginsOrWaits trace low body v Begins Waits → (Begins → Wanted) → (Waits → Wanted) → Wanted
+        → BeginsOrWaits trace low body v Begins Waits → (Begins → Wanted) → (LacksAtOnce trace low body v → Waits → Wanted) → Wanted
     begun_or_waits zero body v Begins Waits Wanted begins first second =
-        ⊎_elim (λ taken. first taken.1) (λ passed. second passed.1) begins
-    begun_or_waits (suc low) body v Begins Waits Wanted begins first second = second begins
+        ⊎_elim (λ taken. first taken.1) (λ passed. second passed.0 passed.1) begins
+    begun_or_waits (suc low) body v Begins Waits Wanted begins first second = second tt begins
 
     behind_it : (i j : Instance) (P : List Instance → Type 0) (is : List Instance) (Wanted : Type 0) → WithBehind i P is
         → Contains is j → (i ≡ j → Wanted) → ((more : List Instance) → P more → Contains more j → Wanted) → Wanted
@@ -150,7 +168,7 @@ module _ (triggers_are_met : TriggersAreMet) (trace : List Step) where
     begun_always (suc low) i j P is Wanted begins there first second = first (only j i is begins there)
 
     begun : (plan : Plan) (v : Valuation) (is : List Instance) (i : Instance) → Begun trace rule plan v is → Contains is i
-        → IsBegunIn trace rule plan i
+        → IsBegunLacking trace rule plan i
     begun (CausePlan node place name terms) v is i begins there = absurd (none_there i is begins there)
     begun (SuppressPlan node place name terms) v is i begins there = absurd (none_there i is begins there)
     begun (Both node left right) v is i (first, rest, begins, also, are) there =
@@ -159,9 +177,9 @@ module _ (triggers_are_met : TriggersAreMet) (trace : List Step) where
         (λ back. begun_inside right (Both node left right) i (λ end reached. inr (inr reached)) (begun right v rest i also back))
         (Contains-append first rest i (subst (λ (l : List Instance). Contains l i) are there))
     begun (Either node left right) v is i begins there =
-        let on_left : LacksNothing trace left v × Begun trace rule left v is → IsBegunIn trace rule (Either node left right) i =
+        let on_left : LacksNothing trace left v × Begun trace rule left v is → IsBegunLacking trace rule (Either node left right) i =
         λ side. begun_inside left (Either node left right) i (λ end reached. inr (inl reached)) (begun left v is i side.1 there) in
-        let on_right : LacksNothing trace right v × Begun trace rule right v is → IsBegunIn trace rule (Either node left right) i =
+        let on_right : LacksNothing trace right v × Begun trace rule right v is → IsBegunLacking trace rule (Either node left right) i =
         λ side. begun_inside right (Either node left right) i (λ end reached. inr (inr reached)) (begun right v is i side.1 there) in
         ⊎_elim on_right
         (λ second. ⊎_elim on_left
@@ -176,33 +194,42 @@ module _ (triggers_are_met : TriggersAreMet) (trace : List Step) where
         begun_inside body (Guarded node xs guard test body) i (λ end reached. inr (row_met v xs test rows are found.0 found.1, reached))
         (begun body (with_values xs found.0 v) found.2 i found.3 found.4)
     begun (EventuallyPlan node place low high body) v is i begins there =
-        begun_or_waits low body v (Begun trace rule body v is) (is ≡ begun_now trace rule node low high v ∷ []) (IsBegunIn trace rule (EventuallyPlan node place low high body) i) begins
+        begun_or_waits low body v (Begun trace rule body v is) (is ≡ begun_now trace rule node low high v ∷ []) (IsBegunLacking trace rule (EventuallyPlan node place low high body) i) begins
         (λ at_once. begun_inside body (EventuallyPlan node place low high body) i (λ end reached. inr reached) (begun body v is i at_once there))
-        (λ waits. (EventuallyPlan node place low high body, inl refl, (v, only i (begun_now trace rule node low high v) is waits there)))
+        (λ lacks waits.
+        let same = only i (begun_now trace rule node low high v) is waits there in
+        (EventuallyPlan node place low high body, inl refl, (v, same), subst (λ (j : Instance). LacksAtOnce trace low body j.valuation) same lacks))
     begun (AlwaysPlan node place low high body) v is i begins there =
-        begun_always low (begun_now trace rule node low high v) i (Begun trace rule body v) is (IsBegunIn trace rule (AlwaysPlan node place low high body) i) begins there
-        (λ same. (AlwaysPlan node place low high body, inl refl, (v, same)))
+        begun_always low (begun_now trace rule node low high v) i (Begun trace rule body v) is (IsBegunLacking trace rule (AlwaysPlan node place low high body) i) begins there
+        (λ same. (AlwaysPlan node place low high body, inl refl, (v, same), tt))
         (λ more holds behind. begun_inside body (AlwaysPlan node place low high body) i (λ end reached. inr reached) (begun body v more i holds behind))
     begun (UntilPlan node place low high left right) v is i begins there =
         begun_or_waits low right v (Begun trace rule right v is) (WithBehind (begun_now trace rule node low high v) (Begun trace rule left v) is)
-        (IsBegunIn trace rule (UntilPlan node place low high left right) i) begins
+        (IsBegunLacking trace rule (UntilPlan node place low high left right) i) begins
         (λ at_once. begun_inside right (UntilPlan node place low high left right) i (λ end reached. inr (inr reached)) (begun right v is i at_once there))
-        (λ waits. behind_it (begun_now trace rule node low high v) i (Begun trace rule left v) is (IsBegunIn trace rule (UntilPlan node place low high left right) i) waits there
-        (λ same. (UntilPlan node place low high left right, inl refl, (v, same)))
+        (λ lacks waits. behind_it (begun_now trace rule node low high v) i (Begun trace rule left v) is (IsBegunLacking trace rule (UntilPlan node place low high left right) i) waits there
+        (λ same. (UntilPlan node place low high left right, inl refl, (v, same), subst (λ (j : Instance). LacksAtOnce trace low right j.valuation) same lacks))
         (λ more holds behind. begun_inside left (UntilPlan node place low high left right) i (λ end reached. inr (inl reached)) (begun left v more i holds behind)))
     begun (NextPlan node place high body) v is i begins there =
-        (NextPlan node place high body, inl refl, (v, only i (begun_now trace rule node 0 high v) is begins there))
+        (NextPlan node place high body, inl refl, (v, only i (begun_now trace rule node 0 high v) is begins there), tt)
 
 pub missed_is_reached : TriggersAreMet → MissedIsReached
 missed_is_reached met trace plan v ls l missing there = missed met trace plan v ls l missing there
 
+-- what is begun, with what its goal lacks
+pub begun_lacking : TriggersAreMet → (trace : List Step) (rule : ℕ) (plan : Plan) (v : Valuation) (is : List Instance) (i : Instance)
+    → Begun trace rule plan v is → Contains is i → IsBegunLacking trace rule plan i
+begun_lacking met trace rule plan v is i begins there = begun met trace rule plan v is i begins there
+
 pub begun_is_reached : TriggersAreMet → BegunIsReached
-begun_is_reached met trace rule plan v is i begins there = begun met trace rule plan v is i begins there
+begun_is_reached met trace rule plan v is i begins there =
+    let found = begun met trace rule plan v is i begins there in
+    (found.0, found.1, found.2)
 
 -- ---- instances
 
 -- what a pending instance of a node asks of later positions: its body, or its sides
-abbrev parts_of : Plan → List Plan
+abbrev pub parts_of : Plan → List Plan
 parts_of (EventuallyPlan node place low high body) = body ∷ []
 parts_of (AlwaysPlan node place low high body) = body ∷ []
 parts_of (UntilPlan node place low high left right) = left ∷ right ∷ []
@@ -210,9 +237,13 @@ parts_of (NextPlan node place high body) = body ∷ []
 parts_of plan = []
 
 -- a part of the first instance's node begins the second
-abbrev BegunOf : List Plan → List Step → Instance → Instance → Type 0
+abbrev pub BegunOf : List Plan → List Step → Instance → Instance → Type 0
 BegunOf plans trace i j =
-    (node part : Plan) × (node_of plans i ≡ Some node) × Contains (parts_of node) part × IsBegunIn trace i.rule part j
+    (node part : Plan) × (node_of plans i ≡ Some node) × Contains (parts_of node) part × IsBegunLacking trace i.rule part j
+
+-- it is the first one, which waits on where something is lacking of its goal in its window
+abbrev pub GoesOn : List Plan → List Step → Instance → Instance → Type 0
+GoesOn plans trace i j = (i ≡ j) × (node : Plan) × (node_of plans i ≡ Some node) × (IsNowIn trace i → LacksAt trace node i)
 
 module _ (triggers_are_met : TriggersAreMet) (plans : List Plan) (trace : List Step) where
   begun_part : (node part : Plan) (i j : Instance) (after : List Instance) → node_of plans i ≡ Some node
@@ -223,25 +254,30 @@ module _ (triggers_are_met : TriggersAreMet) (plans : List Plan) (trace : List S
   -- it waits, and what a part begins is after it
   waits_part : (node part : Plan) (i j : Instance) (after : List Instance) → node_of plans i ≡ Some node
       → Contains (parts_of node) part → WithBehind i (Begun trace i.rule part i.valuation) after → Contains after j
-      → (i ≡ j) ⊎ BegunOf plans trace i j
-  waits_part node part i j after is at (more, begins, are) there =
-      ⊎_elim inl (λ behind. inr (begun_part node part i j more is at begins behind))
+      → (IsNowIn trace i → LacksAt trace node i) → GoesOn plans trace i j ⊎ BegunOf plans trace i j
+  waits_part node part i j after is at (more, begins, are) there lacks =
+      ⊎_elim (λ same. inl (same, node, is, lacks)) (λ behind. inr (begun_part node part i j more is at begins behind))
       (first_or_later j i more (subst (λ (l : List Instance). Contains l j) are there))
 
+  lacks_at_once : (low : ℕ) (goal : Plan) (v : Valuation) → LacksSome trace goal v → LacksAtOnce trace low goal v
+  lacks_at_once zero goal v lacks = lacks
+  lacks_at_once (suc low) goal v lacks = tt
+
   becomes_at : (node : Plan) (i j : Instance) (after : List Instance) → node_of plans i ≡ Some node
-      → BecomesAt trace node i after → Contains after j → (i ≡ j) ⊎ BegunOf plans trace i j
+      → BecomesAt trace node i after → Contains after j → GoesOn plans trace i j ⊎ BegunOf plans trace i j
   becomes_at (EventuallyPlan node place low high body) i j after is becomes there =
       ⊎_elim (λ met. inr (begun_part (EventuallyPlan node place low high body) body i j after is (here body []) met.2 there))
-      (λ waits. inl (only j i after waits.1 there)) becomes
+      (λ waits. inl (only j i after waits.1 there, EventuallyPlan node place low high body, is, λ within. lacks_at_once low body i.valuation (waits.0 within))) becomes
   becomes_at (NextPlan node place high body) i j after is becomes there =
       inr (begun_part (NextPlan node place high body) body i j after is (here body []) becomes there)
   becomes_at (AlwaysPlan node place low high body) i j after is becomes there =
-      ⊎_elim (λ early. inl (only j i after early.1 there)) (λ others.
-      ⊎_elim (λ inside. waits_part (AlwaysPlan node place low high body) body i j after is (here body []) inside.1 there)
+      ⊎_elim (λ early. inl (only j i after early.1 there, AlwaysPlan node place low high body, is, λ within. tt)) (λ others.
+      ⊎_elim (λ inside. waits_part (AlwaysPlan node place low high body) body i j after is (here body []) inside.1 there (λ within. tt))
       (λ late. absurd (none_there j after late.2 there)) others) becomes
   becomes_at (UntilPlan node place low high left right) i j after is becomes there =
       ⊎_elim (λ met. inr (begun_part (UntilPlan node place low high left right) right i j after is (later right left (right ∷ []) (here right [])) met.2 there))
-      (λ waits. waits_part (UntilPlan node place low high left right) left i j after is (here left (right ∷ [])) waits.1 there) becomes
+      (λ waits. waits_part (UntilPlan node place low high left right) left i j after is (here left (right ∷ [])) waits.1 there
+      (λ within. lacks_at_once low right i.valuation (waits.0 within))) becomes
   becomes_at (CausePlan node place name terms) i j after is becomes there = absurd becomes
   becomes_at (SuppressPlan node place name terms) i j after is becomes there = absurd becomes
   becomes_at (Both node left right) i j after is becomes there = absurd becomes
@@ -249,12 +285,12 @@ module _ (triggers_are_met : TriggersAreMet) (plans : List Plan) (trace : List S
   becomes_at (TestOr node guard test body) i j after is becomes there = absurd becomes
   becomes_at (Guarded node xs guard test body) i j after is becomes there = absurd becomes
 
-after_is_reached : TriggersAreMet → (plans : List Plan) (trace : List Step) (i j : Instance) (after : List Instance)
-    → After plans trace i after → Contains after j → (i ≡ j) ⊎ BegunOf plans trace i j
+pub after_is_reached : TriggersAreMet → (plans : List Plan) (trace : List Step) (i j : Instance) (after : List Instance)
+    → After plans trace i after → Contains after j → GoesOn plans trace i j ⊎ BegunOf plans trace i j
 after_is_reached met plans trace i j after becomes there = by (node_of plans i) refl becomes
   where
     by : (found : Option Plan) → node_of plans i ≡ found → AtNode found (λ node. BecomesAt trace node i after)
-        → (i ≡ j) ⊎ BegunOf plans trace i j
+        → GoesOn plans trace i j ⊎ BegunOf plans trace i j
     by None is b = absurd b
     by (Some node) is b = becomes_at met plans trace node i j after is b there
 
@@ -344,7 +380,7 @@ parts_inside (Either node left right) part end at there = absurd (none_in_nil pa
 parts_inside (TestOr node guard test body) part end at there = absurd (none_in_nil part at)
 parts_inside (Guarded node xs guard test body) part end at there = absurd (none_in_nil part at)
 
-part_stands : (plans : List Plan) (rule : ℕ) (node part : Plan) → StandsIn plans rule node → Contains (parts_of node) part
+pub part_stands : (plans : List Plan) (rule : ℕ) (node part : Plan) → StandsIn plans rule node → Contains (parts_of node) part
     → StandsIn plans rule part
 part_stands plans rule node part stands at = record {
   back = within GuardLooksBack stands.back;
@@ -388,10 +424,10 @@ module _ (first : FoundIsFirst) (met : TriggersAreMet) (plans : List Plan)
       (λ front.
       let from = Gathers-contains (After plans (take (suc n) trace)) before kept i goes front in
       ⊎_elim
-      (λ (same : from.0 ≡ i). was_begun n (omega (arith, le)) before pend i (subst (λ (j : Instance). Contains before j) same from.1))
+      (λ (on : GoesOn plans (take (suc n) trace) from.0 i). was_begun n (omega (arith, le)) before pend i (subst (λ (j : Instance). Contains before j) on.0 from.1))
       (λ (anew : BegunOf plans (take (suc n) trace) from.0 i).
       was_begun_here (take (suc n) trace) (drop (suc n) trace) splits some from.0.rule anew.1 i
-      (part_stands plans from.0.rule anew.0 anew.1 (stands_found first plans stand from.0 anew.0 anew.2) anew.3) anew.4)
+      (part_stands plans from.0.rule anew.0 anew.1 (stands_found first plans stand from.0 anew.0 anew.2) anew.3) (anew.4.0, anew.4.1, anew.4.2))
       (after_is_reached met plans (take (suc n) trace) from.0 i from.2 from.3 from.4))
       (λ back.
       let root = BegunByRoots-contains (take (suc n) trace) 0 plans begun i begins back in

@@ -24,6 +24,7 @@ pub mod TriggerLaws
 pub mod UniquenessLaws
 pub mod UnreadNames
 pub mod UnreadLaws
+pub mod UnmetGoals
 pub mod ValueSources
 pub mod ValueLaws
 pub mod WantedLiterals

@@ -17,6 +17,7 @@ ghost use Rattle.obligations.specs.machine.TriggerLaws.{BegunIsNamed, BegunIsRea
 ghost use Rattle.obligations.specs.machine.TriggerLaws.{UnwokenBeginsNothing, UnwokenMissesNothing};
 ghost use Rattle.obligations.specs.machine.ValueLaws.{MissedIsRight, MissedOfIsRight, PendingIsRight, MissedAreOwn};
 ghost use Rattle.obligations.specs.machine.ValueLaws.{MissedOfAreOwn};
+ghost use Rattle.obligations.specs.machine.UnmetGoals.{PendAreUnmet};
 ghost use Rattle.obligations.specs.machine.UnreadLaws.{UnreadInstanceStaysMet, UnreadLeavesRest, UnreadStaysMet};
 
 use enf_formula::laws;
@@ -208,6 +209,16 @@ pub fn pending_was_begun()
 {
     triggers_are_met();
     nodes_have_scopes();
+}
+
+/// What is pending after a trace lacked something of its goal at the last position, where its window was open from the
+/// beginning.
+pub fn pending_is_unmet()
+    ensures { PendAreUnmet }
+{
+    triggers_are_met();
+    nodes_have_scopes();
+    last_time_of_trace();
 }
 
 /// Where guards give right values, what is pending after a trace has such, and what is missed is of such.

@@ -20,7 +20,7 @@ up_to_none (Some high) t = omega arith
 at_once : (interval : Interval) (t : ℕ) → interval.low ≡ 0 → IsIn interval (t - t)
 at_once interval t low = (omega (arith, low), up_to_none interval.high t)
 
-starts : (g begun : Formula) → BeginsWith g begun → (trace : List Step) (i : ℕ) (v : Valuation) → Sat trace i v begun → Sat trace i v g
+pub starts : (g begun : Formula) → BeginsWith g begun → (trace : List Step) (i : ℕ) (v : Valuation) → Sat trace i v begun → Sat trace i v g
 starts (Once place inner h) begun begins trace i v holds =
     λ none. none (i, omega arith, at_once inner (step_at trace i).time begins.0, subst (Sat trace i v) (sym begins.1) holds, λ k after up_to. tt)
 starts (Since place inner f h) begun begins trace i v holds =

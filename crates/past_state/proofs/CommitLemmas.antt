@@ -3,6 +3,11 @@ use Rattle.past_state.proofs.Vocabulary.{◌≡◌, ◌∙◌, ℕ, zero, suc, �
 use Rattle.past_state.proofs.Vocabulary.{Memory, FitMemory, IsUpToTimeOf, IsCommittedTo, IsSameMemory, AllMemoriesFit, AreUpToTimeOf, OneCommitted, AllCommitted, AreSameKinds, StepTables}
 use Rattle.past_state.proofs.Vocabulary.{OperatorState}
 use Rattle.past_state.proofs.MemoryLemmas.{same_itself, same_then}
+use Rattle.past_state.specs.declared.prev_operands.Operand.{Operand}
+use Rattle.past_state.specs.declared.prev_operands.Operand.TheVariants as asked
+use Rattle.past_state.specs.machine.Memories.{IsSlotAfter}
+use Rattle.valuations.specs.machine.Tables.{Relation}
+use Rattle.windows.specs.machine.Slots.{IsUpToTime, Slot}
 use Rattle.past_state.specs.declared.memories.Memory.TheVariants as memories
 
 pub within : (operators : List OperatorState) (front back : List StepTables) (t : StepTables) → AllMemoriesFit operators (front ++ t ∷ back) → length front < length operators
@@ -93,8 +98,12 @@ pub lengths_add : {X : Type 0} (front : List X) (x : X) (place : ℕ) → place 
 lengths_add front x place e = omega (arith, e, length-append front (x ∷ []))
 
 -- what is committed at a time is not later than it
+slot_up_to : (time later : ℕ) (operand : Operand) (slot : Slot) (right : Relation) (after : Slot) → time ≤ later → IsSlotAfter operand slot time right after → IsUpToTime later after.last
+slot_up_to time later (asked.Whole guard) slot right after within is = subst (λ s. IsUpToTime later s.last) (sym is) within
+slot_up_to time later (asked.Growing guard) slot right after within is = subst (λ s. IsUpToTime later s.last) (sym is.after_is) within
+
 one_up_to : (time later : ℕ) (m : Memory) (t : StepTables) (after : Memory) → time ≤ later → IsCommittedTo m time t after → IsUpToTimeOf later after
-one_up_to time later (memories.Prev slot operand) t after within committed = subst (IsUpToTimeOf later) (sym committed) within
+one_up_to time later (memories.Prev slot operand) t after within committed = subst (IsUpToTimeOf later) (sym committed.2) (slot_up_to time later operand slot t.right committed.0 within committed.1)
 one_up_to time later (memories.Once window right) t after within committed = subst (IsUpToTimeOf later) (sym committed.2) (omega (arith, committed.1.last_is))
 one_up_to time later (memories.Since window left left_tables right) t after within committed = subst (IsUpToTimeOf later) (sym committed.2) (omega (arith, committed.1.last_is))
 

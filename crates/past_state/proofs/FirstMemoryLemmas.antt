@@ -7,7 +7,8 @@ use Rattle.past_state.proofs.Vocabulary.{Always, Until, IsFree, AreFreeVariables
 use Rattle.past_state.proofs.Vocabulary.{PushesFor, GuardAsks, AsksLeft, IsFor, operators, inner, AreFor, Left, Memory, OperatorState}
 use Rattle.std.specs.Prelude.{true, false, IsTrue, ◌↔◌, IfSome, Option, Some}
 use Rattle.past_state.proofs.ColumnLemmas.{after}
-use Rattle.past_state.specs.machine.Newcomers.{AsksInstead, AsksRight, BeginsWith}
+use Rattle.past_state.specs.declared.prev_operands.Operand.{Operand}
+use Rattle.past_state.specs.machine.Newcomers.{AsksInstead, AsksOperand, AsksRight, BeginsWith, GrowsBy}
 use Rattle.enf_data.specs.contracts.terms.VarIdPartialEq.TheImpl as variables
 use Rattle.past_state.specs.declared.left_sides.Left.TheVariants as side
 use Rattle.past_state.specs.declared.memories.Memory.TheVariants as memories
@@ -82,19 +83,33 @@ begun_fresh (Once place inner h) begun begins S fresh = subst (λ f. BindsFresh 
 begun_fresh (Since place inner f h) begun begins S fresh = subst (λ k. BindsFresh k S) begins.1 fresh.1
 begun_fresh g begun begins S fresh = absurd begins
 
-pub asks_begun : (g begun : Formula) (columns : List VarId) (guard : BoundFormula) → BeginsWith g begun → outermost begun ≡ [] → BindsFresh g (λ x. Contains [] x ⊎ IsFree x g)
-    → AreFreeVariables g columns → IsAlone begun guard → AreFreeVariables begun columns → AsksInstead (BeginsWith g) g guard
-asks_begun g begun columns guard begins present fresh free alone over = record {
+grown_fresh : (g begun : Formula) → GrowsBy g begun → (S : VarId → Type 0) → BindsFresh g S → BindsFresh begun S
+grown_fresh (Once place inner h) begun grows S fresh = subst (λ f. BindsFresh f S) grows.2 fresh
+grown_fresh g begun grows S fresh = absurd grows
+
+asks_instead : (Serves : Formula → Type 0) (g begun : Formula) (columns : List VarId) (guard : BoundFormula) → Serves begun → outermost begun ≡ []
+    → BindsFresh begun (λ x. Contains [] x ⊎ IsFree x g) → AreFreeVariables g columns → IsAlone begun guard → AreFreeVariables begun columns → AsksInstead Serves g guard
+asks_instead Serves g begun columns guard serves present fresh free alone over = record {
   other = begun;
-  serves = begins;
+  serves = serves;
   free = same;
   present = present;
   asks = asks begun [] guard begun alone.formula_is refl alone.bound_is (fresh_fewer begun (λ x. Contains [] x ⊎ IsFree x g) (λ x. Contains [] x ⊎ IsFree x begun)
-      (λ x either. ⊎_elim (λ none. inl none) (λ is. inr ((same x).0 is)) either) (begun_fresh g begun begins (λ x. Contains [] x ⊎ IsFree x g) fresh));
+      (λ x either. ⊎_elim (λ none. inl none) (λ is. inr ((same x).0 is)) either) fresh);
 }
   where
     same : (x : VarId) → IsFree x begun ↔ IsFree x g
     same x = (λ is. (free.exact x).0 ((over.exact x).1 is), λ is. (over.exact x).0 ((free.exact x).1 is))
+
+pub asks_begun : (g begun : Formula) (columns : List VarId) (guard : BoundFormula) → BeginsWith g begun → outermost begun ≡ [] → BindsFresh g (λ x. Contains [] x ⊎ IsFree x g)
+    → AreFreeVariables g columns → IsAlone begun guard → AreFreeVariables begun columns → AsksInstead (BeginsWith g) g guard
+asks_begun g begun columns guard begins present fresh free alone over =
+    asks_instead (BeginsWith g) g begun columns guard begins present (begun_fresh g begun begins (λ x. Contains [] x ⊎ IsFree x g) fresh) free alone over
+
+pub asks_grown : (g begun : Formula) (columns : List VarId) (guard : BoundFormula) → GrowsBy g begun → outermost begun ≡ [] → BindsFresh g (λ x. Contains [] x ⊎ IsFree x g)
+    → AreFreeVariables g columns → IsAlone begun guard → AreFreeVariables begun columns → AsksInstead (GrowsBy g) g guard
+asks_grown g begun columns guard grows present fresh free alone over =
+    asks_instead (GrowsBy g) g begun columns guard grows present (grown_fresh g begun grows (λ x. Contains [] x ⊎ IsFree x g) fresh) free alone over
 
 pub some_begun : (g begun : Formula) (columns : List VarId) (found : Option BoundFormula) → BeginsWith g begun → BindsFresh g (λ x. Contains [] x ⊎ IsFree x g) → AreFreeVariables g columns
     → IfSome found (IsAlone begun) → IfSome found (λ _. AreFreeVariables begun columns) → IfSome found (λ _. outermost begun ≡ [])
@@ -102,10 +117,16 @@ pub some_begun : (g begun : Formula) (columns : List VarId) (found : Option Boun
 some_begun g begun columns None begins fresh free alone over present = tt
 some_begun g begun columns (Some guard) begins fresh free alone over present = asks_begun g begun columns guard begins present fresh free alone over
 
+pub some_grown : (g begun : Formula) (columns : List VarId) (found : Option BoundFormula) → GrowsBy g begun → BindsFresh g (λ x. Contains [] x ⊎ IsFree x g) → AreFreeVariables g columns
+    → IfSome found (IsAlone begun) → IfSome found (λ _. AreFreeVariables begun columns) → IfSome found (λ _. outermost begun ≡ [])
+    → IfSome found (AsksInstead (GrowsBy g) g)
+some_grown g begun columns None grows fresh free alone over present = tt
+some_grown g begun columns (Some guard) grows fresh free alone over present = asks_grown g begun columns guard grows present fresh free alone over
+
 -- ---- what is kept for one operator
 
-pub for_prev : (place : ℕ) (interval : Interval) (g : Formula) (slot : Slot) (operand : BoundFormula) (columns : List VarId) → slot ≡ record { interval = interval; columns = columns; last = None }
-    → AreFreeVariables g columns → GuardAsks g [] operand → IsFor (Prev place interval g) (memories.Prev slot operand)
+pub for_prev : (place : ℕ) (interval : Interval) (g : Formula) (slot : Slot) (operand : Operand) (columns : List VarId) → slot ≡ record { interval = interval; columns = columns; last = None }
+    → AreFreeVariables g columns → AsksOperand g operand → IsFor (Prev place interval g) (memories.Prev slot operand)
 for_prev place interval g slot operand columns is free asks =
     (asks, subst (λ s. AreFreeVariables g s.columns) (sym is) free, ap (λ s. s.interval) is, subst (λ s. LastHasColumns s.columns s.last) (sym is) tt)
 

@@ -8,6 +8,7 @@ pub mod CommitLemmas
 pub mod CountLemmas
 pub mod Decided
 pub mod FirstMemoryLemmas
+pub mod GrowthLemmas
 pub mod GuardLaws
 pub mod GuardLemmas
 pub mod HeldLemmas

@@ -8,8 +8,14 @@ use Rattle.past_state.proofs.Vocabulary.{AsksLeft, AreSurvivors, CanAskLeft, Lef
 use Rattle.past_state.proofs.Vocabulary.{ValuationSurvives, SurvivorsFit, Left, Memory, StepTables}
 use Rattle.past_state.proofs.BegunLemmas.{begun_past}
 use Rattle.past_state.proofs.SurvivorLemmas.{window_gives}
-use Rattle.past_state.specs.machine.Laws.{BegunAnswers, BegunGoesOn, OnceStands}
-use Rattle.past_state.specs.machine.Newcomers.{AsksInstead, AsksRight, BeginsWith}
+use Rattle.past_state.specs.machine.Laws.{BegunAnswers, BegunGoesOn, OnceStands, PrevGrows}
+use Rattle.past_state.proofs.GrowthLemmas.{grown_past}
+use Rattle.past_state.specs.declared.prev_operands.Operand.{Operand}
+use Rattle.past_state.specs.declared.prev_operands.Operand.TheVariants as asked
+use Rattle.past_state.specs.machine.Memories.{IsSlotAfter}
+use Rattle.past_state.specs.machine.Newcomers.{AsksInstead, AsksOperand, AsksRight, BeginsWith, guard_in}
+use Rattle.past_state.specs.machine.OperatorMeaning.{SlotStands}
+use Rattle.windows.specs.machine.Slots.{Slot}
 use Rattle.windows.specs.machine.Windows.{AnswersBy, IsCommittedBy}
 use Rattle.past_state.specs.declared.left_sides.Left.TheVariants as side
 use Rattle.past_state.specs.declared.survivors.Survivors.TheVariants as told
@@ -102,8 +108,14 @@ can_ask_right interval f columns guard tables asks free fit =
     ⊎_elim (λ whole. can_ask_all f columns guard tables whole free fit)
     (λ new. can_ask_all new.1.other columns guard tables new.1.asks (free_instead f new.1.other columns new.1.free free) (subst (λ l. FitOperators l tables) (sym new.1.present) tt)) asks
 
+can_ask_operand : (f : Formula) (columns : List VarId) (operand : Operand) (tables : List Relation) → AsksOperand f operand → AreFreeVariables f columns → FitOperators (outermost f) tables
+    → CanAskRows (guard_in operand) columns tables
+can_ask_operand f columns (asked.Whole guard) tables asks free fit = can_ask_all f columns guard tables asks free fit
+can_ask_operand f columns (asked.Growing guard) tables asks free fit =
+    can_ask_all asks.other columns guard tables asks.asks (free_instead f asks.other columns asks.free free) (subst (λ l. FitOperators l tables) (sym asks.present) tt)
+
 pub can_step : (f : Formula) (m : Memory) (tables : List Relation) → IsFor f m → FitOperators (inner f) tables → CanStep tables m
-can_step (Prev place interval g) (memories.Prev slot operand) tables for fit = can_ask_all g slot.columns operand tables for.0 for.1 fit
+can_step (Prev place interval g) (memories.Prev slot operand) tables for fit = can_ask_operand g slot.columns operand tables for.0 for.1 fit
 can_step (Once place interval g) (memories.Once window right) tables for fit = can_ask_right interval g window.columns right tables for.0 for.1 fit
 can_step (Historically place interval g) (memories.Once window right) tables for fit =
     can_ask_right interval (denial g) window.columns right tables for.0 for.1 (subst (λ l. FitOperators l tables) (sym (denial_outermost g)) fit)
@@ -135,6 +147,7 @@ pub record Laws : Type 0 where
   pub begun_goes_on : BegunGoesOn
   pub prev_answers : PrevAnswers
   pub prev_goes_on : PrevGoesOn
+  pub prev_grows : PrevGrows
 
 module _ (laws : Laws) (trace : List Step) (step : Step) (later : last_time trace ≤ step.time) where
   -- what holds by the tables is what is satisfied
@@ -258,13 +271,25 @@ module _ (laws : Laws) (trace : List Step) (step : Step) (later : last_time trac
       (since_tables g h window left right left_tables tables t for.0 for.1 for.3 for.4 for.5 pasts.0 pasts.1 inside are.0 are.1) v binds))
   given_stands f m tables t past for stands inside are = absurd for
 
+  slot_stands : (g : Formula) (interval : Interval) (operand : Operand) (slot after : Slot) (tables : List Relation) (right : Relation) → AsksOperand g operand
+      → AreFreeVariables g slot.columns → IsTrue (is_past g) → SlotStands trace interval g slot
+      → TablesStandFor (trace ++ step ∷ []) (length trace) (outermost g) tables → AnswersRows step.events tables (guard_in operand) slot.columns right
+      → IsSlotAfter operand slot step.time right after → SlotStands (trace ++ step ∷ []) interval g after
+  slot_stands g interval (asked.Whole guard) slot after tables right asks free past stands inside answers is =
+      subst (SlotStands (trace ++ step ∷ []) interval g) (sym is)
+      (laws.prev_goes_on trace step interval g slot right stands answers.columns_are (is_answer g guard tables slot.columns right asks free past inside answers))
+  slot_stands g interval (asked.Growing guard) slot after tables right asks free past stands inside answers is =
+      laws.prev_grows trace step interval g asks.other slot after right past asks.serves stands
+      (is_answer asks.other guard tables slot.columns right asks.asks (free_instead g asks.other slot.columns asks.free free) (grown_past g asks.other asks.serves past)
+      (subst (λ l. TablesStandFor (trace ++ step ∷ []) (length trace) l tables) (sym asks.present) tt) answers) is
+
   -- and with the step committed it stands for the longer trace
   pub committed_stands : (f : Formula) (m : Memory) (tables : List Relation) (t : StepTables) (after : Memory) → IsTrue (is_past f) → IsFor f m → MemoryStands trace f m
       → TablesStandFor (trace ++ step ∷ []) (length trace) (inner f) tables → AreStepTables step.events tables m t → IsCommittedTo m step.time t after
       → MemoryStands (trace ++ step ∷ []) f after
   committed_stands (Prev place interval g) (memories.Prev slot operand) tables t after past for stands inside are committed =
-      subst (MemoryStands (trace ++ step ∷ []) (Prev place interval g)) (sym committed)
-      (laws.prev_goes_on trace step interval g slot t.right stands are.columns_are (is_answer g operand tables slot.columns t.right for.0 for.1 past inside are))
+      subst (MemoryStands (trace ++ step ∷ []) (Prev place interval g)) (sym committed.2)
+      (slot_stands g interval operand slot committed.0 tables t.right for.0 for.1 past stands inside are committed.1)
   committed_stands (Once place interval g) (memories.Once window right) tables t after past for stands inside are committed =
       subst (MemoryStands (trace ++ step ∷ []) (Once place interval g)) (sym committed.2)
       (once_committed g interval window committed.0 right tables t for.0 for.1 past stands inside are.0 are.1 committed.1)

@@ -11,10 +11,11 @@ use Rattle.std.proofs.lemmas.List.{append-nil}
 use Rattle.past_state.proofs.FirstMemoryLemmas.{distinct}
 use Rattle.past_state.proofs.SavedLemmas.{at_place, columns_free, lengths}
 use Rattle.past_state.specs.declared.memories.Memory.TheVariants as memories
+use Rattle.past_state.specs.declared.prev_operands.Operand.{Operand}
 
 -- ---- one window or slot
 
-pub restored_prev : (slot : Slot) (operand : BoundFormula) (last : Option ℕ) (pairs : List KeptPair) (after : Slot) → All (λ p. length p.row ≡ length slot.columns) pairs
+pub restored_prev : (slot : Slot) (operand : Operand) (last : Option ℕ) (pairs : List KeptPair) (after : Slot) → All (λ p. length p.row ≡ length slot.columns) pairs
     → IsRestoredSlot slot last pairs after
     → IsRestored (memories.Prev slot operand) last pairs (memories.Prev after operand)
 restored_prev slot operand last pairs after fit r = record {

@@ -1,12 +1,20 @@
 -- Steps that touch nothing of what is remembered of the past.
-use Rattle.past_state.proofs.Vocabulary.{◌≡◌, ◌∙◌, ℕ, ◌+◌, ◌<◌, ◌≤◌, List, [], ◌∷◌, ◌++◌, length, map, take, drop, get_or, set, All, All-head, All-tail, refl, sym, ap, subst, arith, none_in_nil, Event, Step, VarId}
-use Rattle.past_state.proofs.Vocabulary.{Valuation, BindsColumns, HasValuation, HoldsNow, Relation, IsTable, Formula, AreFreeVariables, tree_of, BoundFormula, AnswersRows, AreStepTables, AreSurvivors, Left}
+use Rattle.past_state.proofs.Vocabulary.{◌≡◌, ◌∙◌, ℕ, ◌+◌, ◌<◌, ◌≤◌, List, [], ◌∷◌, ◌++◌, length, take, drop, get_or, set, All-head, All-tail, refl, sym, ap, subst, arith, none_in_nil, Event, VarId}
+use Rattle.past_state.proofs.Vocabulary.{Relation, Formula, AreFreeVariables, tree_of, BoundFormula, AnswersRows, AreStepTables, AreSurvivors, Left}
 use Rattle.enf_data.proofs.RisingLists.{rising_distinct}
 use Rattle.past_state.proofs.Vocabulary.{zero, suc, reverse, map-append, length-map, length-take, take_more, All-get_or, All-nil, HasNoRepeats, variable_cmp_total, Window, Prev, Once}
 use Rattle.past_state.proofs.Vocabulary.{Historically, Since, denial, AreUpToTimeOf, IsUpToTimeOf, PastCommitted, CommitStands, all_operators, formulas_of_guards}
-use Rattle.past_state.proofs.Vocabulary.{LeftHolds, Memory, FitMemory, IsFor, AreFor, OperatorState, StepTables, Runs, AllMemoriesFit, AllCommitted, OneCommitted, memory_given, Past, PastTables, IsPast}
+use Rattle.past_state.proofs.Vocabulary.{Memory, FitMemory, IsFor, AreFor, OperatorState, Runs, AllMemoriesFit, AllCommitted, OneCommitted, memory_given, Past, PastTables, IsPast}
 use Rattle.monitorable_guard.specs.machine.NeededEvents.{HoldsForNone}
-use Rattle.past_state.specs.machine.Memories.{columns_of}
+use Rattle.prev_rows.specs.machine.GrownSlots.{WasThere}
+use Rattle.past_state.specs.machine.Laws.{with_last}
+use Rattle.past_state.specs.machine.Memories.{IsSlotAfter, columns_of}
+use Rattle.past_state.specs.machine.Newcomers.{guard_in}
+use Rattle.past_state.specs.declared.prev_operands.Operand.{Operand}
+use Rattle.windows.specs.machine.Slots.{HasLast, IsBareSlot, Slot}
+use Rattle.std.specs.Prelude.{◌⊎◌, Contains}
+use Rattle.past_state.proofs.Vocabulary.{Valuation, inl, ⊎_elim}
+use Rattle.past_state.specs.declared.prev_operands.Operand.TheVariants as asked
 use Rattle.past_state.specs.machine.UntouchedSteps.{AreUntouched, IsUntouched, KeepsAllRows, PassedWillStand, idle_tables, nothing_brought}
 use Rattle.past_state.proofs.CommitLemmas.{next_committed, uncommitted}
 use Rattle.past_state.proofs.PastLemmas.{just_made}
@@ -37,7 +45,7 @@ distinct_free f columns free = rising_distinct variable_cmp_total columns free.r
 
 brings_nothing : (events : List Event) (tables : List Relation) (f : Formula) (m : Memory) → IsFor f m → IsUntouched events m
     → AreStepTables events tables m (nothing_brought (columns_of m))
-brings_nothing events tables (Prev place interval g) (memories.Prev slot operand) is none = no_rows_answer events tables operand slot.columns (distinct_free g slot.columns is.1) none.1
+brings_nothing events tables (Prev place interval g) (memories.Prev slot operand) is none = no_rows_answer events tables (guard_in operand) slot.columns (distinct_free g slot.columns is.1) none.1
 brings_nothing events tables (Once place interval g) (memories.Once window right) is none = (no_rows_answer events tables right window.columns (distinct_free g window.columns is.1) none, refl)
 brings_nothing events tables (Historically place interval g) (memories.Once window right) is none =
     (no_rows_answer events tables right window.columns (distinct_free (denial g) window.columns is.1) none, refl)
@@ -64,6 +72,22 @@ fits_nothing : (m : Memory) → FitMemory m (nothing_brought (columns_of m))
 fits_nothing (memories.Prev slot operand) = refl
 fits_nothing (memories.Once window right) = (tt, refl)
 fits_nothing (memories.Since window left left_tables right) = (tt, refl)
+
+none_there : (slot : Slot) → IsBareSlot slot → (v : Valuation) → WasThere slot.last v → ⊥
+none_there slot bare v was =
+    let there = subst (λ last. HasLast last v was.0) bare.1 was.1 in
+    none_in_nil there.1.0 (subst (λ rows. Contains rows there.1.0) bare.2 there.1.1)
+
+-- a slot without rows that grows by none has none
+pub slot_passed : (operand : Operand) (slot : Slot) (time : ℕ) (after : Slot) → IsBareSlot slot → after ≡ with_last slot time (record { columns = slot.columns; rows = [] })
+    → IsSlotAfter operand slot time (record { columns = slot.columns; rows = [] }) after
+slot_passed (asked.Whole guard) slot time after bare is = is
+slot_passed (asked.Growing guard) slot time after bare is = record {
+  rows = record { columns = slot.columns; rows = [] };
+  columns_are = refl;
+  after_is = is;
+  has = λ v. (λ h. inl h, λ either. ⊎_elim (λ h. h) (λ was. absurd (none_there slot bare v was)) either);
+}
 
 pub fit_idle : (operators : List OperatorState) → AllMemoriesFit operators (idle_tables operators)
 fit_idle [] = tt

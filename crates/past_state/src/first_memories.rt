@@ -10,21 +10,24 @@ ghost use Rattle.enf_formula.specs.machine.FormulaShape.{BindsFresh};
 ghost use Rattle.past_state.specs.machine.KeepableOperators.{IsFreshFormula, CanKeep, IsAlone, PushesFor};
 ghost use Rattle.past_state.specs.machine.LeftSides.{AsksLeft};
 ghost use Rattle.past_state.specs.machine.Memories.{IsFor};
-ghost use Rattle.past_state.specs.machine.Newcomers.{AsksRight};
+ghost use Rattle.past_state.specs.machine.Newcomers.{AsksOperand, AsksRight};
 ghost use Rattle.past_state.specs.meaning.KeptRows.{operators};
 ghost use Rattle.enf_formula.specs.meaning.Satisfaction as tree;
 
 use crate::left_sides::Left;
 use crate::memories::Memory;
-use crate::newcomers::newcomers;
+use crate::newcomers::{growth, newcomers};
 use crate::operators::OperatorState;
+use crate::prev_operands::Operand;
 use crate::shared_guard::SharedGuard;
 use enf_data::intervals::Interval;
 use enf_data::memory::NoMemory;
+use enf_data::seeds::Seed;
 use enf_data::terms::Vars;
 use enf_formula::Formula;
 use monitorable_guard::laws::safe_with_listed;
 use monitorable_guard::{Guard, GuardRefusal};
+use prev_rows::LastRows;
 use std::alloc::Global;
 use windows::{PrevSlot, SinceWindow};
 
@@ -112,11 +115,27 @@ fn prev_memory(alloc: Global, interval: Interval, operand: &Formula) -> Result<M
     requires safe { Safe (tree_of operand.now) NoneBound }
     ensures { IfOk result (λ m. (place : ℕ) → IsFor (tree.Prev place interval (tree_of operand.now)) m) }
 {
-    safe_with_listed();
     let columns = operand.free_vars(alloc)?;
-    let operand = shared_guard_of(alloc, operand, &Vars::new(alloc))?;
-    let slot = PrevSlot::new(interval, columns);
+    let operand = operand_of(alloc, operand, &columns)?;
+    let slot = LastRows::of(Seed::known(), PrevSlot::new(interval, columns));
     Ok(Memory::Prev { slot, operand })
+}
+
+// What is asked at each step for the rows of the operand of `prev`.
+fn operand_of(alloc: Global, operand: &Formula, columns: &Vars) -> Result<Operand, NoMemory>
+    requires fresh { IsFreshFormula (tree_of operand.now) }
+    requires safe { Safe (tree_of operand.now) NoneBound }
+    requires columns { AreFreeVariables (tree_of operand.now) columns.now }
+    ensures { IfOk result (AsksOperand (tree_of operand.now)) }
+{
+    safe_with_listed();
+    match growth(alloc, operand, columns)? {
+        Some(guard) => Ok(Operand::Growing(guard)),
+        None => {
+            let guard = shared_guard_of(alloc, operand, &Vars::new(alloc))?;
+            Ok(Operand::Whole(guard))
+        }
+    }
 }
 
 fn once_memory(alloc: Global, interval: Interval, operand: &Formula) -> Result<Memory, NoMemory>

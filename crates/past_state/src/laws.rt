@@ -1,7 +1,8 @@
 //! How windows and slots stand for a trace, step by step: laws over the definitions, each the contract of a function.
 ghost use Rattle.past_state.specs.machine.KeepableOperators.{KeptHeld, OperatorsCanBeKept};
 ghost use Rattle.past_state.specs.machine.Laws.{NoMoreThanNodes, SinceAnswers, SinceGoesOn, OnceAnswers, OnceGoesOn};
-ghost use Rattle.past_state.specs.machine.Laws.{BegunAnswers, BegunGoesOn, HistoricallyIsDenied, PrevAnswers, PrevGoesOn};
+ghost use Rattle.past_state.specs.machine.Laws.{BegunAnswers, BegunGoesOn, HistoricallyIsDenied};
+ghost use Rattle.past_state.specs.machine.Laws.{PrevAnswers, PrevGoesOn, PrevGrows};
 ghost use Rattle.past_state.specs.machine.ValueSources.{TablesAreKnown};
 ghost use Rattle.past_state.specs.machine.Past.{RunStands, CommitStands, TablesStay, UnreadGuardsHold};
 ghost use Rattle.past_state.specs.machine.Past.{UnreadTablesStay};
@@ -56,6 +57,14 @@ pub fn prev()
     trace_grows();
 }
 
+/// A slot of `prev` whose rows grow.
+pub fn prev_grows()
+    ensures { PrevGrows }
+{
+    dependence();
+    prev();
+}
+
 /// A step over all operators: where they stand for a trace its tables stand for the step, and with the step committed
 /// they stand for the longer trace.
 pub fn steps_stand()
@@ -67,6 +76,7 @@ pub fn steps_stand()
     once();
     once_begun();
     prev();
+    prev_grows();
     present_is_satisfied();
 }
 

@@ -13,6 +13,7 @@ mod newcomers;
 mod operator_answers;
 pub mod operators;
 pub mod past;
+pub mod prev_operands;
 mod restored_past;
 mod right_rows;
 mod row_filters;

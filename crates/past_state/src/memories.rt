@@ -4,24 +4,25 @@ ghost use Rattle.enf_data.specs.declared.events.Event.{Event as AnyEvent};
 
 use crate::left_sides::Left;
 use crate::operator_answers::LazyTables;
+use crate::prev_operands::Operand;
 use crate::right_rows::RightRows;
 use crate::row_filters::right_rows;
 use crate::shared_guard::SharedGuard;
 use crate::survivors::Survivors;
 use enf_data::events::Event;
-use enf_data::items::Duplicate;
 use enf_data::memory::NoMemory;
 use monitorable_guard::StepEvents;
+use prev_rows::LastRows;
 use std::alloc::Global;
-use windows::{PrevSlot, SinceWindow};
+use windows::SinceWindow;
 
 /// What is kept for an operator on the past, and the guards that it asks at each step. `historically` keeps the
 /// window of `once` of the denial.
 #[derive(Debug, Drop)]
 pub enum Memory {
     Prev {
-        slot: PrevSlot,
-        operand: SharedGuard,
+        slot: LastRows,
+        operand: Operand,
     },
     Once {
         window: SinceWindow,
@@ -59,7 +60,7 @@ impl Memory {
     {
         match self {
             Memory::Prev { operand, .. } => {
-                let right = right_rows(alloc, operand, events, past)?;
+                let right = right_rows(alloc, operand.guard(), events, past)?;
                 let surviving = Survivors::All;
                 Ok(StepTables { surviving, right })
             }
@@ -91,19 +92,22 @@ impl Memory {
     {
         let StepTables { surviving, right } = tables;
         match self {
-            Memory::Prev { slot, .. } => {
-                slot.commit(time, right.table().duplicate(alloc)?);
-                Ok(())
-            }
-            Memory::Once { window, .. } => window.commit_by(
+            Memory::Prev { slot, operand } => match operand {
+                Operand::Whole(_) => {
+                    let rows = right.into_table(alloc)?;
+                    slot.commit(alloc, time, rows)
+                }
+                Operand::Growing(_) => slot.grow(alloc, time, right.table()),
+            },
+            Memory::Once { window, .. } => window.commit_rows(
                 time,
                 &surviving.as_surviving(),
-                right.table(),
+                right.into_rows(alloc)?,
             ),
-            Memory::Since { window, .. } => window.commit_by(
+            Memory::Since { window, .. } => window.commit_rows(
                 time,
                 &surviving.as_surviving(),
-                right.table(),
+                right.into_rows(alloc)?,
             ),
         }
     }
@@ -115,7 +119,7 @@ impl Memory {
     {
         match self {
             Memory::Prev { slot, operand } => {
-                slot.is_bare() && operand.guard().lacks_event(events)
+                slot.is_bare() && operand.guard().guard().lacks_event(events)
             }
             Memory::Once { right, .. } => right.guard().lacks_event(events),
             Memory::Since { left, right, .. } => {
@@ -125,17 +129,14 @@ impl Memory {
     }
 
     /// Makes such a step the last one. Once memory has run out, it answers no more calls but drop.
-    pub fn pass(&mut self, time: u64) -> Result<(), NoMemory>
+    pub fn pass(&mut self, alloc: Global, time: u64) -> Result<(), NoMemory>
         requires later { IsUpToTimeOf time self.old }
         requires untouched { (events : List AnyEvent) × IsUntouched events self.old }
         ensures ok { OnOk result (IsCommittedTo self.old time (nothing_brought (columns_of self.old)) self.new) }
         ensures kind { IsSameMemory self.old self.new }
     {
         match self {
-            Memory::Prev { slot, .. } => {
-                slot.pass(time);
-                Ok(())
-            }
+            Memory::Prev { slot, .. } => slot.pass(alloc, time),
             Memory::Once { window, .. } => window.pass(time),
             Memory::Since { window, .. } => window.pass(time),
         }

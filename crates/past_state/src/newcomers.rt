@@ -4,7 +4,7 @@ ghost use Rattle.enf_formula.specs.machine.FormulaViews.{tree_of};
 ghost use Rattle.enf_formula.specs.meaning.Satisfaction.{AreFreeVariables};
 ghost use Rattle.monitorable_guard.specs.machine.PresentMeaning.{outermost};
 ghost use Rattle.past_state.specs.machine.KeepableOperators.{IsAlone, IsFreshFormula};
-ghost use Rattle.past_state.specs.machine.Newcomers.{AsksInstead, BeginsWith};
+ghost use Rattle.past_state.specs.machine.Newcomers.{AsksInstead, BeginsWith, GrowsBy};
 
 use crate::first_memories::guard_alone;
 use crate::shared_guard::SharedGuard;
@@ -32,6 +32,29 @@ pub fn newcomers(
     }
     match operand {
         Formula::Once(_, inner, begun) | Formula::Since(_, inner, _, begun) if inner.low == 0 => {
+            guard_of_now(alloc, begun, columns)
+        }
+        _ => Ok(None),
+    }
+}
+
+// A guard for the rows that come to those of an operand of `prev`, where none goes and they can be asked for by
+// themselves.
+pub fn growth(
+    alloc: Global,
+    operand: &Formula,
+    columns: &Vars,
+) -> Result<Option<SharedGuard>, NoMemory>
+    requires fresh { IsFreshFormula (tree_of operand.now) }
+    requires columns { AreFreeVariables (tree_of operand.now) columns.now }
+    ensures { IfOk result (λ found. IfSome found
+        (AsksInstead (GrowsBy (tree_of operand.now)) (tree_of operand.now))) }
+{
+    match operand {
+        Formula::Once(_, inner, begun) if inner.low == 0 => {
+            if inner.high.is_some() {
+                return Ok(None);
+            }
             guard_of_now(alloc, begun, columns)
         }
         _ => Ok(None),

@@ -1,5 +1,5 @@
 //! The operators on the past of guards, from the inside out.
-ghost use Rattle.std.specs.Prelude.{◌≡◌, [], IfOk, IsTrue, List, OnOk};
+ghost use Rattle.std.specs.Prelude.{[], IfOk, IsTrue, List, OnOk};
 ghost use Rattle.enf_data.specs.declared.events.Event.{Event as AnyEvent};
 ghost use Rattle.past_state.specs.machine.LazyTables.{CanAskEach, tables_at};
 ghost use Rattle.past_state.specs.machine.OperatorRuns.{AreOrderedOperators, AreUpToTimeOf, Runs, AllMemoriesFit};
@@ -128,8 +128,9 @@ fn pass_each(operators: &mut Vec<OperatorState>, time: u64) -> Result<(), NoMemo
         operators.new.items) }
     ensures kinds { AreSameKinds operators.old.items operators.new.items }
 {
+    let alloc = *operators.allocator();
     for place in 0..operators.len() {
-        operators[place].memory.pass(time)?;
+        operators[place].memory.pass(alloc, time)?;
     }
     Ok(())
 }

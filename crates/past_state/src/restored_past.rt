@@ -21,6 +21,7 @@ use enf_data::memory::NoMemory;
 use enf_data::seeds::Seed;
 use enf_formula::laws::dependence;
 use monitorable_guard::Guard;
+use prev_rows::LastRows;
 use std::alloc::Global;
 use std::rc::Rc;
 use windows::{KeptPair, PrevSlot, SinceWindow};
@@ -165,7 +166,7 @@ impl Memory {
     {
         match self {
             Memory::Prev { slot, operand } => {
-                let slot = restored_slot(alloc, &slot, last, pairs)?;
+                let slot = restored_slot(alloc, seed, &slot, last, pairs)?;
                 Ok(Memory::Prev { slot, operand })
             }
             Memory::Once { window, right } => {
@@ -192,17 +193,19 @@ impl Memory {
 
 fn restored_slot(
     alloc: Global,
-    slot: &PrevSlot,
+    seed: Seed,
+    slot: &LastRows,
     last: Option<u64>,
     pairs: Vec<KeptPair>,
-) -> Result<PrevSlot, NoMemory>
+) -> Result<LastRows, NoMemory>
     requires distinct { HasNoRepeats slot.now.columns }
     requires fit { All (λ p. length p.row ≡ length slot.now.columns) pairs.items }
     requires times { AreOfLast last pairs.items }
     ensures { IfOk result (IsRestoredSlot slot.now last pairs.items) }
 {
     let columns = slot.columns().duplicate(alloc)?;
-    PrevSlot::from_kept(alloc, slot.interval(), columns, last, pairs)
+    let restored = PrevSlot::from_kept(alloc, slot.interval(), columns, last, pairs)?;
+    Ok(LastRows::of(seed, restored))
 }
 
 fn restored_window(

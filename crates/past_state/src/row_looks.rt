@@ -97,7 +97,10 @@ impl Memory {
     fn looks(&self, alloc: Global) -> Result<Vec<Look>, NoMemory> {
         let mut looks = Vec::new(alloc);
         match self {
-            Memory::Prev { operand, .. } => operand.guard().add_looks(alloc, 0, &mut looks)?,
+            Memory::Prev { operand, .. } => operand
+                .guard()
+                .guard()
+                .add_looks(alloc, 0, &mut looks)?,
             Memory::Once { right, .. } => right.guard().add_looks(alloc, 0, &mut looks)?,
             Memory::Since {
                 left,

@@ -5,7 +5,7 @@ use Rattle.pending.proofs.Vocabulary.{none_in_nil, Step, Plan, has_deadline, IsA
 use Rattle.pending.proofs.Vocabulary.{IsOneOr, IsStep, EntryOutcome, PutsInEntries, begun_entries, entries_behind, StepsCanPutIn, StepsGoInOrder, Entry, Beginning, IsNowOf, guards_now, time_now}
 use Rattle.pending.proofs.Vocabulary.{Gathers, AreServed, is_forced, ComesOf, NowLeads, AfterExists, After, AtNode, PendingAfter, node_of, IsBegunUnder, CanAskOf, HasPart, Instance, Now}
 use Rattle.pending.proofs.Vocabulary.{EntryBecomes, CarriesPending, WalksEntries, ArePendingEntries, FitsStep, entries_from, items_of, IsPendingListOf, EarlyStay, IsWaitOf, Listed, PendingList}
-use Rattle.pending.proofs.Vocabulary.{SleepersStay, Wait, all_listed, listed_of, step_moment}
+use Rattle.pending.proofs.Vocabulary.{AreUnmet, IsUnmetOf, PlansStand, SleepersStay, Wait, last_time, all_listed, listed_of, step_moment}
 use Rattle.pending.proofs.EntryLemmas.{entries_items, entries_places, filed_waits, items_append}
 use Rattle.pending.proofs.MomentLemmas.{before_last, not_begun, not_forced, not_later}
 use Rattle.pending.proofs.WakePatternLemmas.{not_over}
@@ -247,18 +247,22 @@ module _ (now : Now) (plans : List Plan) (inserted : Bool) (n : ℕ) (all left m
         (λ j there. ⊎_elim (λ front. inl (from_old j front)) (λ back. inr (carried.come j back))
         (Contains-append (items_of (entries_behind order.every)) carried.roots j (subst (λ (l : List Instance). Contains l j) grown_items there)))
 
-    module _ (exists : AfterExists) (stay : SleepersStay) (early_stay : EarlyStay) (trace : List Step) (is : IsNowOf now trace) where
+    module _ (exists : AfterExists) (stay : SleepersStay) (early_stay : EarlyStay) (stand : PlansStand plans) (before : List Step) (newest : Step)
+        (is : IsNowOf now (before ++ newest ∷ [])) (later : last_time before ≤ newest.time) where
+      abbrev trace : List Step
+      trace = before ++ newest ∷ []
+
       -- an entry that is asleep becomes itself
-      itself : (e : Entry Instance) → Good now plans e → Q e → After plans trace e.item (e.item ∷ [])
-      itself e good asleep =
+      itself : (e : Entry Instance) → Good now plans e → Q e → IsUnmetOf plans before e.item → After plans trace e.item (e.item ∷ [])
+      itself e good asleep unmet =
           let found = exists (guards_now now) plans trace e.item good.1 in
           let now_is = is.time in
           let none = subst (HasNone asleep.patterns) (sym is.events) asleep.none in
           let within = not_later inserted now.time e.item.high (before_last plans (listed_of e).wait e.item (step_moment inserted now.time) good.0 asleep.in_time) in
           subst (After plans trace e.item) (⊎_elim
-          (λ open_is. stay (guards_now now) plans trace e.item good.1
+          (λ open_is. stay (guards_now now) plans before newest e.item stand good.1
           (record { patterns = asleep.patterns; wakes = sym (ap (λ (w : Wait). w.patterns) open_is) ∙ asleep.waits; none = none })
-          (not_over (node_of plans e.item) e.item (time_now trace) (omega (arith, within, now_is))) found.0 found.1)
+          (not_over (node_of plans e.item) e.item (time_now trace) (omega (arith, within, now_is))) later unmet found.0 found.1)
           (λ early_is.
           let before = not_begun inserted now.time e.item (subst (λ (w : Wait). step_moment inserted now.time < w.until) early_is asleep.in_time) in
           early_stay (guards_now now) plans trace e.item good.1 (record {
@@ -268,8 +272,9 @@ module _ (now : Now) (plans : List Plan) (inserted : Bool) (n : ℕ) (all left m
             before = omega (arith, before, now_is);
           }) found.0 found.1) good.0) found.1
 
-      after_one : (o : EntryOutcome Instance) → IsOneOr Q walks.outcomes o → Good now plans o.entry → AreServed plans inserted trace (o.entry.item ∷ []) → After plans trace o.entry.item (items_of (cond o.stays (o.entry ∷ []) [] ++ o.begun))
-      after_one o one good served =
+      after_one : (o : EntryOutcome Instance) → IsOneOr Q walks.outcomes o → Good now plans o.entry → IsUnmetOf plans before o.entry.item
+          → AreServed plans inserted trace (o.entry.item ∷ []) → After plans trace o.entry.item (items_of (cond o.stays (o.entry ∷ []) [] ++ o.begun))
+      after_one o one good unmet served =
           ⊎_elim
           (λ there.
           let b = AllByRecursion-contains (EntryBecomes now plans inserted m) walks.outcomes o walks.each there in
@@ -280,28 +285,30 @@ module _ (now : Now) (plans : List Plan) (inserted : Bool) (n : ℕ) (all left m
           (λ c.
           let stays = c.1 in
           let none = c.2 in
-          subst (After plans trace o.entry.item) (λ i. items_of (cond (sym stays i) (o.entry ∷ []) [] ++ sym none i)) (itself o.entry good c.0)) one
+          subst (After plans trace o.entry.item) (λ i. items_of (cond (sym stays i) (o.entry ∷ []) [] ++ sym none i)) (itself o.entry good c.0 unmet)) one
 
       gathered : (every : List (EntryOutcome Instance)) → AllByRecursion (IsOneOr Q walks.outcomes) every → AllByRecursion (Good now plans) (map entry_of every)
-          → AreServed plans inserted trace (items_of (map entry_of every))
+          → AreUnmet plans before (items_of (map entry_of every)) → AreServed plans inserted trace (items_of (map entry_of every))
           → Gathers (After plans trace) (items_of (map entry_of every)) (items_of (entries_behind every))
-      gathered [] each good served = refl
-      gathered (o ∷ every) each good served = (
+      gathered [] each good unmet served = refl
+      gathered (o ∷ every) each good unmet served = (
         items_of (cond o.stays (o.entry ∷ []) [] ++ o.begun),
         items_of (entries_behind every),
-        after_one o each.0 good.0 (served.0, tt),
-        gathered every each.1 good.1 served.1,
+        after_one o each.0 good.0 unmet.0 (served.0, tt),
+        gathered every each.1 good.1 unmet.1 served.1,
         items_append (cond o.stays (o.entry ∷ []) [] ++ o.begun) (entries_behind every),
       )
 
-      pub goes : AreServed plans inserted trace seen.instances → PendingAfter plans trace seen.instances (items_of grown)
-      goes seen_served =
+      pub goes : AreUnmet plans before seen.instances → AreServed plans inserted trace seen.instances → PendingAfter plans trace seen.instances (items_of grown)
+      goes seen_unmet seen_served =
+          let unmet = subst (AreUnmet plans before) (sym seen_are) seen_unmet in
           let served = subst (AreServed plans inserted trace) (sym seen_are) seen_served in
           subst (λ (l : List Instance). PendingAfter plans trace l (items_of grown)) seen_are (
             items_of (entries_behind order.every),
             carried.roots,
             subst (λ (l : List (Entry Instance)). Gathers (After plans trace) (items_of l) (items_of (entries_behind order.every))) order.entries
                 (gathered order.every order.each (subst (AllByRecursion (Good now plans)) (sym order.entries) (good_all now plans all waits asked))
+                (subst (λ (l : List (Entry Instance)). AreUnmet plans before (items_of l)) (sym order.entries) unmet)
                 (subst (λ (l : List (Entry Instance)). AreServed plans inserted trace (items_of l)) (sym order.entries) served)),
             carried.by_roots trace is,
             grown_items,

@@ -16,7 +16,7 @@ use plan_terms::Plan;
 use sleepers::{Beginning, Entry, Patterns, Place};
 use std::alloc::Global;
 use valuations::Frame;
-use wake_patterns::{early_patterns_of, patterns_of};
+use wake_patterns::{early_patterns_of, waiting_patterns_of};
 
 // The patterns of the events that can change an instance that is filed at this time.
 fn patterns_in(
@@ -41,7 +41,7 @@ fn open_patterns_in(
     ensures { IfOk result (λ found. found ≡ wake_patterns_of (map plan_of plans.now) instance.now) }
 {
     match node_in(plans, instance) {
-        Some(node) => patterns_of(alloc, node, &Frame::Whole(&instance.valuation)),
+        Some(node) => waiting_patterns_of(alloc, node, &Frame::Whole(&instance.valuation)),
         None => Ok(None),
     }
 }

@@ -1,8 +1,9 @@
 //! Lists of pending instances, of which a step looks at those that it wakes.
-ghost use Rattle.std.specs.Prelude.{◌≡◌, ◌+◌, ◌-◌, ◌<◌, ◌≤◌, ◌^◌, IfOk, IsFalse, List, OnOk, []};
+ghost use Rattle.std.specs.Prelude.{◌≡◌, ◌+◌, ◌-◌, ◌<◌, ◌≤◌, ◌^◌, ◌++◌, ◌∷◌, IfOk, IsFalse, List, OnOk, []};
 ghost use Rattle.std.specs.Prelude.{length, map};
 ghost use Rattle.std.specs.List.{AllByRecursion};
 ghost use Rattle.enf_data.specs.declared.steps.Step.{Step};
+ghost use Rattle.trace_meaning.specs.meaning.Traces.{last_time};
 ghost use Rattle.plan_terms.specs.meaning.Plans.{Plan as AnyPlan};
 ghost use Rattle.plan_terms.specs.machine.StoredPlans.{plan_of};
 ghost use Rattle.sleepers.specs.machine.Entries.{AllButThose, shown};
@@ -10,6 +11,7 @@ ghost use Rattle.obligations.specs.machine.PresentStep.{IsNowOf};
 ghost use Rattle.obligations.specs.machine.FreshGuards.{guards_now};
 ghost use Rattle.obligations.specs.machine.Progress.{AreServed};
 ghost use Rattle.obligations.specs.machine.Successors.{NowLeads};
+ghost use Rattle.obligations.specs.machine.UnmetGoals.{AreUnmet};
 ghost use Rattle.obligations.specs.meaning.Pending.{PendingAfter};
 ghost use Rattle.obligations.specs.machine.PlanClasses.{PlansStand};
 ghost use Rattle.obligations.specs.machine.AskablePlans.{CanAskOf, CanAskRoots};
@@ -179,8 +181,9 @@ impl Pending {
     }
 
     /// Each instance becomes what it becomes after the step, in its place, and what the roots of the rules begin
-    /// comes last. At an inserted step those are served whose deadline it is: nothing is asked of them. Once memory
-    /// has run out, it is fit to be dropped.
+    /// comes last, where the goals of the instances were not met before the step, as it is with what is pending after a
+    /// trace (`obligations::laws::pending_is_unmet`). At an inserted step those are served whose deadline it is: nothing
+    /// is asked of them. Once memory has run out, it is fit to be dropped.
     pub fn progress(
         &mut self,
         alloc: Global,
@@ -195,9 +198,10 @@ impl Pending {
         requires keeps { IsPendingListOf (map plan_of plans.now) self.old }
         requires few { length plans.now ≤ 2 ^ 32 }
         requires in_time { now.now.time ≤ MOST_TIME }
-        ensures goes { OnOk result ((trace : List Step) → IsNowOf now.now trace
-            → AreServed (map plan_of plans.now) inserted trace self.old.instances
-            → PendingAfter (map plan_of plans.now) trace self.old.instances self.new.instances) }
+        ensures goes { OnOk result ((trace : List Step) (step : Step) → IsNowOf now.now (trace ++ step ∷ [])
+            → last_time trace ≤ step.time → AreUnmet (map plan_of plans.now) trace self.old.instances
+            → AreServed (map plan_of plans.now) inserted (trace ++ step ∷ []) self.old.instances
+            → PendingAfter (map plan_of plans.now) (trace ++ step ∷ []) self.old.instances self.new.instances) }
         ensures leads { OnOk result (NowLeads now.now (map plan_of plans.now) inserted
             self.old.instances self.new.instances) }
         ensures keeps { OnOk result (IsPendingListOf (map plan_of plans.now) self.new) }

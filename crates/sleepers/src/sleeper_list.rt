@@ -86,20 +86,6 @@ impl<T: Drop> Sleepers<T> {
         Ok(all)
     }
 
-    /// Those that are awake at a step of this time with these events, in order.
-    pub fn woken(
-        &self,
-        alloc: Global,
-        events: &[Event],
-        time: u64,
-    ) -> Result<Vec<&Entry<T>>, NoMemory>
-        ensures { IfOk result (λ woken. AllButThose (IsAsleep events.now time) self.now.entries (shown woken.items)) }
-    {
-        let mut woken = woken(alloc, &self.groups, &self.index, events, time)?;
-        sort_by_place(&mut woken);
-        Ok(woken)
-    }
-
     /// Those that are awake at a step of this time with these events, to be looked at one after another.
     pub fn agenda(
         &self,

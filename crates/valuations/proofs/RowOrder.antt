@@ -6,6 +6,7 @@ use Rattle.valuations.proofs.Vocabulary.{Contains-from_dedup, IsStrictlySortedBy
 use Rattle.std.specs.List.Sorted.{IsStrictlySortedBy}
 pub use Rattle.enf_data.proofs.ValueOrder.{value_cmp_total, value_cmp_exact, row_cmp_total, row_cmp_exact}
 pub use Rattle.valuations.proofs.KeyLaws.{key_cmp_total, key_cmp_exact}
+pub use Rattle.enf_data.proofs.RisingLists.{sorted_from_strict}
 pub use Rattle.enf_data.proofs.SortedSearch.{no_tie}
 
 ties_same : {K : Type 0} (R : K → K → Ordering) → IsAntisymmetric R → (x y : K) → eq_by_cmp R x y ≡ true → x ≡ y
@@ -15,11 +16,6 @@ ties_same R exact x y e = by (R x y) refl e
     by Less is t = absurd (false≢true t)
     by Equal is t = exact x y is
     by Greater is t = absurd (false≢true t)
-
--- keys that strictly rise do not fall
-pub sorted_from_strict : {K : Type 0} {R : K → K → Ordering} → IsTotalOrder R → (xs : List K) → IsStrictlySortedBy R xs → IsSorted R xs
-sorted_from_strict {R = R} o xs rising k d low within =
-    ap is_lt (o.antisymm (get_or xs (k + 1) d) (get_or xs k d) ∙ ap ordering_reverse (Less-from_sorted R xs k (k + 1) d rising (omega arith) within))
 
 -- where a search by the order ends tells whether the key is there
 pub search_tells : {K : Type 0} {R : K → K → Ordering} → IsTotalOrder R → IsAntisymmetric R → (xs : List K) (x : K) (r : Result ℕ ℕ) → IsStrictlySortedBy R xs

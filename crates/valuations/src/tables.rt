@@ -1,9 +1,11 @@
 //! Tables: columns and rows.
 ghost use Rattle.std.specs.Prelude.{◌≡◌, ◌↔◌, [], ◌∷◌, List, IsTrue, IfOk, All, Contains, length};
 ghost use Rattle.std.specs.Prelude.{slice_get};
+ghost use Rattle.std.specs.List.Sorted.{IsStrictlySortedBy};
 ghost use Rattle.std.specs.Option.{option_copied};
 ghost use Rattle.enf_data.specs.meaning.Membership.{HasNoRepeats};
 ghost use Rattle.enf_data.specs.declared.values.Value.{Value as AnyValue};
+ghost use Rattle.enf_data.specs.meaning.Values.{row_cmp};
 
 use enf_data::items::Duplicate;
 use enf_data::memory::NoMemory;
@@ -57,6 +59,9 @@ impl Table {
         ensures rows { IfOk result (λ t. (row : List AnyValue)
             → Contains t.rows row ↔ Contains rows.items row) }
     {
+        if do_rise(rows.as_slice()) {
+            return Ok(Table { columns, rows });
+        }
         let mut rows = rows;
         rows.sort_unstable_by(|a, b| a.compare(b));
         rows.dedup_by(|a, b| a.compare(b).is_eq());
@@ -105,6 +110,14 @@ impl Table {
         &self.columns
     }
 
+    /// The rows in order, moved out.
+    pub fn into_rows(self) -> Vec<Row>
+        ensures rows { result.items ≡ self.rows }
+        ensures table { IsTable self }
+    {
+        self.rows
+    }
+
     /// The rows in order.
     pub fn rows(&self) -> &[Row]
         ensures rows { result.now ≡ self.now.rows }
@@ -112,6 +125,13 @@ impl Table {
     {
         self.rows.as_slice()
     }
+}
+
+// Whether each row is before those after it.
+fn do_rise(rows: &[Row]) -> bool
+    ensures { IsTrue result → IsStrictlySortedBy row_cmp rows.now }
+{
+    rows.is_sorted_by(|a, b| a.compare(b).is_lt())
 }
 
 impl Duplicate for Table {

@@ -2,3 +2,4 @@ pub mod Vocabulary
 pub mod CaseLemmas
 pub mod PatternLemmas
 pub mod PlanLemmas
+pub mod StillLemmas

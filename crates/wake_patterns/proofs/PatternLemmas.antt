@@ -5,7 +5,7 @@ use Rattle.wake_patterns.proofs.Vocabulary.{Var, Const, VarId, Value, BindsFresh
 use Rattle.wake_patterns.proofs.Vocabulary.{Both, Either, TestOr, Guarded, EventuallyPlan, AlwaysPlan, UntilPlan, NextPlan, value_at-with_outside, FitsArg, FitArgs, HasNone, Pattern, AtEach}
 use Rattle.wake_patterns.proofs.Vocabulary.{BringsFresh, BringsFreshUnder, pattern_of, patterns_of_both, narrower, fails_without, holds_without, if_known, cond, nat_lt, least_fixed, known_truth}
 use Rattle.wake_patterns.proofs.Vocabulary.{of_known, of_numbers, value_eq, value_eq-Decides, Decides, Bool, true, false, false≢true, Num, Text, int_lt, int_le, ◌<ℤ◌, ◌≤ℤ◌, AreSameValues}
-use Rattle.wake_patterns.proofs.Vocabulary.{AreNumbersInOrder, True, False, Equal, Less, AtMost, Not, Implies, Forall, ℤ, ints, arith}
+use Rattle.wake_patterns.proofs.Vocabulary.{AreNumbersInOrder, True, False, Equal, Less, AtMost, Not, Implies, Forall, Once, Since, ℤ, ints, arith}
 
 -- ---- options and lists of patterns
 
@@ -92,6 +92,8 @@ module _ (v : Valuation) where
   BindsNew (Implies place g h) = BindsNew g × BindsNew h
   BindsNew (Exists place xs g) = AreUnbound xs × BindsNew g
   BindsNew (Forall place xs g) = AreUnbound xs × BindsNew g
+  BindsNew (Once place interval g) = BindsNew g
+  BindsNew (Since place interval g h) = BindsNew g × BindsNew h
   BindsNew f = Unit {0}
 
   binds_new : (f : Formula) (scope : VarId → Type 0) → ((x : VarId) → (scope x → ⊥) → value_at v x ≡ None) → BindsFresh f scope → BindsNew f
@@ -107,6 +109,8 @@ module _ (v : Valuation) where
     λ x there. only x (fresh.0 x there),
     binds_new g (λ x. scope x ⊎ Contains xs x) (λ x out. only x (λ inside. out (inl inside))) fresh.1,
   )
+  binds_new (Once place interval g) scope only fresh = binds_new g scope only fresh
+  binds_new (Since place interval g h) scope only fresh = (binds_new g scope only fresh.0, binds_new h scope only fresh.1)
   binds_new f scope only fresh = tt
 
   -- and those that the guards of a plan bring

@@ -16,17 +16,18 @@ pub use Rattle.enf_data.specs.declared.terms.Term.{Term}
 pub use Rattle.enf_data.specs.declared.terms.Term.TheVariants.{Const, Var}
 pub use Rattle.enf_data.specs.declared.terms.VarId.{VarId}
 pub use Rattle.enf_data.specs.declared.values.Value.{Value}
+pub use Rattle.enf_data.specs.declared.intervals.Interval.{Interval}
 pub use Rattle.enf_data.specs.meaning.Data.{step_at}
 pub use Rattle.enf_data.specs.declared.values.Value.TheVariants.{Num, Text}
 pub use Rattle.enf_data.specs.machine.ValueTests.{value_eq-Decides}
-pub use Rattle.enf_data.specs.meaning.Membership.{IsIn}
+pub use Rattle.enf_data.specs.meaning.Membership.{IsIn, IsUpTo}
 pub use Rattle.enf_data.specs.meaning.Values.{value_eq}
 pub use Rattle.enf_data.specs.meaning.Valuations.{Valuation, no_values, onto_values, value_at, value_of_term, values_of_terms, variable_cmp, with_values}
 pub use Rattle.enf_formula.proofs.VariableLaws.{new_apart}
 pub use Rattle.enf_formula.specs.machine.Cases.{event_q_of, name_p, name_q, variable_x}
 pub use Rattle.enf_formula.specs.machine.FormulaShape.{BindsFresh}
 pub use Rattle.enf_formula.specs.meaning.Satisfaction.{And, AreNumbersInOrder, AreSameValues, AtMost, Atom, Equal, Exists, False, Forall, Formula, Implies, IsEventAmong, IsFree, Less, Not, Or, Sat}
-pub use Rattle.enf_formula.specs.meaning.Satisfaction.{True, elapsed}
+pub use Rattle.enf_formula.specs.meaning.Satisfaction.{HeldSince, HoldsAnywhere, Once, Since, True, elapsed}
 pub use Rattle.plan_terms.specs.meaning.Plans.{AlwaysPlan, Both, CausePlan, Either, EventuallyPlan, Guarded, NextPlan, Plan, SuppressPlan, TestOr, UntilPlan, formula_for, interval_from_to}
 pub use Rattle.plan_terms.specs.machine.WellFormed.{AtEach, GuardBindsFresh}
 pub use Rattle.sleepers.specs.declared.patterns.Pattern.{Pattern}
@@ -36,4 +37,4 @@ pub use Rattle.valuations.specs.machine.Bindings.{bound_in}
 pub use Rattle.wake_patterns.specs.machine.Cases.{p_alone, value_one, value_two}
 pub use Rattle.wake_patterns.specs.machine.KnownTruths.{known_truth, of_known, of_numbers}
 pub use Rattle.wake_patterns.specs.machine.Laws.{BringsFresh, BringsFreshUnder}
-pub use Rattle.wake_patterns.specs.machine.WakePatterns.{fails_without, holds_without, if_known, least_fixed, met_by, missed_by, narrower, pattern_of, patterns_of_both, patterns_of_one}
+pub use Rattle.wake_patterns.specs.machine.WakePatterns.{fails_still, fails_without, first_known, holds_without, if_from_now, if_known, least_fixed, met_by, missed_by, narrower, pattern_of, patterns_of_both, patterns_of_one}

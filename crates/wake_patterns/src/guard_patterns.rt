@@ -63,6 +63,31 @@ pub fn holds_without(
     }
 }
 
+// Without an event of these the guard or test does not hold, where it did not hold at the step before.
+pub fn fails_still(
+    alloc: Global,
+    formula: &Formula,
+    v: &Frame<'_>,
+) -> Result<Option<Patterns>, NoMemory>
+    ensures { IfOk result (λ found. found ≡ waking.fails_still (bound_in v.now) (tree_of formula.now)) }
+{
+    match formula {
+        Formula::And(_, g, h) => match fails_without(alloc, formula, v)? {
+            Some(patterns) => Ok(Some(patterns)),
+            None => of_both(fails_still(alloc, g, v)?, fails_still(alloc, h, v)?),
+        },
+        Formula::Or(_, g, h) => of_both(fails_still(alloc, g, v)?, fails_still(alloc, h, v)?),
+        Formula::Exists(_, _, g) => fails_still(alloc, g, v),
+        Formula::Once(_, interval, g) | Formula::Since(_, interval, _, g) => {
+            if interval.low > 0 {
+                return Ok(None);
+            }
+            fails_still(alloc, g, v)
+        }
+        _ => fails_without(alloc, formula, v),
+    }
+}
+
 // No pattern where the truth is known to be the one that is wanted; else each step is looked at.
 fn if_known(alloc: Global, wanted: bool, truth: Option<bool>) -> Option<Patterns>
     ensures { result ≡ waking.if_known wanted truth }

@@ -10,4 +10,4 @@ pub mod plan_patterns;
 pub mod worked_cases;
 
 pub use patterns::of_both;
-pub use plan_patterns::{early_patterns_of, patterns_of};
+pub use plan_patterns::{early_patterns_of, patterns_of, waiting_patterns_of};

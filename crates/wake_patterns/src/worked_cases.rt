@@ -1,13 +1,14 @@
 //! Worked cases of the definitions, each a clause of a function with an empty body.
 ghost use Rattle.std.specs.Prelude.{◌≡◌, [], ◌∷◌, None, Some};
 ghost use Rattle.enf_data.specs.meaning.Valuations.{no_values};
-ghost use Rattle.enf_formula.specs.machine.Cases.{event_p_of, event_q, event_q_of, formula_p, formula_p_x, formula_q_x};
-ghost use Rattle.enf_formula.specs.machine.Cases.{variable_x};
+ghost use Rattle.enf_formula.specs.machine.Cases.{event_p_of, event_q, event_q_of, formula_p, formula_p_x, formula_q};
+ghost use Rattle.enf_formula.specs.machine.Cases.{formula_q_x, interval_between, interval_from, variable_x};
 ghost use Rattle.plan_terms.specs.machine.Cases.{cause_p, each_soon, plan_cause_q_x, x_is};
 ghost use Rattle.sleepers.specs.machine.Patterns.{HasNone, MatchesPattern};
-ghost use Rattle.wake_patterns.specs.machine.Cases.{no_q, p_alone, p_open, q_alone, q_fixed, q_open};
+ghost use Rattle.wake_patterns.specs.machine.Cases.{goal_of_past, no_q, p_alone, p_open, q_alone, q_fixed, q_open};
 ghost use Rattle.wake_patterns.specs.machine.Cases.{value_one, value_two, x_below_two};
-ghost use Rattle.wake_patterns.specs.machine.WakePatterns.{early_patterns, fails_without, holds_without, narrower, wake_patterns};
+ghost use Rattle.wake_patterns.specs.machine.WakePatterns.{early_patterns, fails_without, holds_without, narrower};
+ghost use Rattle.wake_patterns.specs.machine.WakePatterns.{waiting_patterns, wake_patterns};
 ghost use Rattle.enf_formula.specs.meaning.Satisfaction as formula;
 ghost use Rattle.plan_terms.specs.meaning.Plans as plan;
 
@@ -84,4 +85,48 @@ pub fn wakings()
     ensures early { early_patterns no_values (plan.EventuallyPlan 0 0 3 9 (cause_p 1)) ≡ Some [] }
     ensures early_side { early_patterns no_values (plan.UntilPlan 0 0 3 10 no_q (cause_p 2)) ≡ Some (q_alone ∷ []) }
     ensures next { wake_patterns no_values (plan.NextPlan 0 0 10 (cause_p 1)) ≡ None }
+{}
+
+/// What wakes goals over the past, that is of q(): what q() was there for at an earlier step was met there.
+pub fn past_goals()
+    ensures once { waiting_patterns no_values (goal_of_past 0 (formula.Once 0 (interval_from 0) formula_q))
+        ≡ Some (q_alone ∷ p_alone ∷ []) }
+    ensures within { waiting_patterns no_values (goal_of_past 0 (formula.Once 0 (interval_between 0 5) formula_q))
+        ≡ Some (q_alone ∷ p_alone ∷ []) }
+    ensures not_of_the_step { waiting_patterns no_values
+        (goal_of_past 0 (formula.Once 0 (interval_between 1 5) formula_q)) ≡ None }
+    ensures later_window { waiting_patterns no_values
+        (goal_of_past 3 (formula.Once 0 (interval_from 0) formula_q)) ≡ None }
+    ensures one_of_two { waiting_patterns no_values
+        (goal_of_past 0 (formula.And 0 (formula.Once 0 (interval_from 0) formula_q) formula_p))
+        ≡ Some (p_alone ∷ p_alone ∷ []) }
+    ensures both { waiting_patterns no_values (goal_of_past 0 (formula.And 0
+        (formula.Once 0 (interval_from 0) formula_q) (formula.Once 0 (interval_from 0) formula_p)))
+        ≡ Some (q_alone ∷ p_alone ∷ p_alone ∷ []) }
+    ensures since { waiting_patterns no_values
+        (goal_of_past 0 (formula.Since 0 (interval_from 0) formula_p formula_q)) ≡ Some (q_alone ∷ p_alone ∷ []) }
+    ensures nothing_known { wake_patterns no_values (goal_of_past 0 (formula.Once 0 (interval_from 0) formula_q))
+        ≡ None }
+{}
+
+/// What wakes goals over the past that have parts, or stand in an Until.
+pub fn past_goals_of_parts()
+    ensures either { waiting_patterns no_values
+        (goal_of_past 0 (formula.Or 0 (formula.Once 0 (interval_from 0) formula_q) formula_p))
+        ≡ Some (q_alone ∷ p_alone ∷ p_alone ∷ []) }
+    ensures one_in_another { waiting_patterns no_values (goal_of_past 0 (formula.Once 0 (interval_from 0)
+        (formula.Once 0 (interval_between 0 5) formula_q))) ≡ Some (q_alone ∷ p_alone ∷ []) }
+    ensures an_earlier_one_in_another { waiting_patterns no_values (goal_of_past 0 (formula.Once 0 (interval_from 0)
+        (formula.Once 0 (interval_between 1 5) formula_q))) ≡ None }
+    ensures denied { waiting_patterns no_values
+        (goal_of_past 0 (formula.Not 0 (formula.Once 0 (interval_from 0) formula_q))) ≡ None }
+    ensures step_before { waiting_patterns no_values
+        (goal_of_past 0 (formula.Prev 0 (interval_from 0) formula_q)) ≡ None }
+    ensures beside_an_event { waiting_patterns no_values (plan.EventuallyPlan 0 0 0 9 (plan.Both 1
+        (plan.TestOr 2 0 (formula.Once 0 (interval_from 0) formula_q) no_q) (cause_p 4))) ≡ Some (p_alone ∷ []) }
+    ensures until_goal { waiting_patterns no_values (plan.UntilPlan 0 0 0 10 no_q
+        (plan.TestOr 2 0 (formula.Once 0 (interval_from 0) formula_q) (cause_p 3)))
+        ≡ Some (q_alone ∷ p_alone ∷ q_alone ∷ []) }
+    ensures until_later { waiting_patterns no_values (plan.UntilPlan 0 0 3 10 no_q
+        (plan.TestOr 2 0 (formula.Once 0 (interval_from 0) formula_q) (cause_p 3))) ≡ None }
 {}

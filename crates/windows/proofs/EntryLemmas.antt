@@ -6,6 +6,8 @@ use Rattle.windows.proofs.Vocabulary.{values_of, set_value_at, get_by, insert_en
 use Rattle.windows.proofs.Vocabulary.{derived_row_eq-Decides, HasNoRepeats, Interval, Value, all_from, AddAtMost, AddsAtMost, AddsTime, AddsTimes, AreWindowEntries, AreLeast, Forgets, ForgetsTimes}
 use Rattle.windows.proofs.Vocabulary.{GivesRow, GivesSomeRow, HasTime, IsAnyRow, IsSomeIn, KeepsRows, IsEndedTime, AreLeastTimes, IsServedTime, RiseTo, Contains-from_map, Contains-map, All-weaker}
 use Rattle.std.specs.Prelude.{is_some, IsTrue}
+use Rattle.indexmap.proofs.MapLemmas.{Found-position, absent_from_lookup, insert_entry-first, or_len-absent, some_index}
+use Rattle.std.specs.List.{position_or_len}
 use Rattle.windows.proofs.LeastLemmas.{one_entry}
 use Rattle.windows.proofs.TimeLemmas.{first_least, itself, rise_later}
 use Rattle.windows.specs.machine.RowTimes.{is_some_time}
@@ -260,6 +262,47 @@ pub grown_by : {S : Type 0} (m : HashMap (List Value) (List ℕ) S) (row key : L
     → get_by (rows.eq-value.it row) m ≡ None → key ≡ row
     → after ≡ insert_entry rows.eq-value.it m.entries key times → after ≡ m.entries ++ (row, times) ∷ []
 grown_by m row key times after none same is = is ∙ ap (λ k. insert_entry rows.eq-value.it m.entries k times) same ∙ insert_entry-new rows.eq-value.it m row times none
+
+-- where the row is there, its times are put in its place
+module _ {S : Type 0} (m : HashMap (List Value) (List ℕ) S) (row : List Value) (place : ℕ) (old one : List ℕ) (middle : List (List Value × List ℕ))
+    (held : get_by (rows.eq-value.it row) m ≡ Some old) (index : place ≡ position_or_len (rows.eq-value.it row) (keys_of m.entries))
+    (is : middle ≡ insert_entry rows.eq-value.it m.entries row one) where
+  put_there : (Some place ≡ position (rows.eq-value.it row) (keys_of m.entries)) × (slice_get (values_of m.entries) place ≡ Some old)
+      × (middle ≡ set_value_at m.entries place one)
+  put_there = by (position (rows.eq-value.it row) (keys_of m.entries)) refl
+    where
+      by : (o : Option ℕ) → position (rows.eq-value.it row) (keys_of m.entries) ≡ o
+          → (Some place ≡ position (rows.eq-value.it row) (keys_of m.entries)) × (slice_get (values_of m.entries) place ≡ Some old)
+          × (middle ≡ set_value_at m.entries place one)
+      by None p = absurd (false≢true (sym (ap is_some p) ∙ some_index (rows.eq-value.it row) m.entries ∙ ap is_some held))
+      by (Some i) p =
+          let found = Found-position (rows.eq-value.it row) m.entries i p in
+          let at : place ≡ i = index ∙ found.or_len in (
+            ap Some at ∙ sym p,
+            subst (λ n. slice_get (values_of m.entries) n ≡ Some old) (sym at) (sym found.value ∙ held),
+            is ∙ insert_entry-first rows.eq-value.it row one m.entries i found.first ∙ ap (λ n. set_value_at m.entries n one) (sym at),
+          )
+
+  -- and then others instead
+  pub put_again : (new : List ℕ) → set_value_at middle place new ≡ set_value_at m.entries place new
+  put_again new = ap (λ es. set_value_at es place new) put_there.2 ∙ twice m.entries place
+    where
+      twice : (es : List (List Value × List ℕ)) (n : ℕ) → set_value_at (set_value_at es n one) n new ≡ set_value_at es n new
+      twice [] n = refl
+      twice (e ∷ es) zero = refl
+      twice (e ∷ es) (suc n) = ap (λ l. e ∷ l) (twice es n)
+
+  pub put_value : slice_get (values_of m.entries) place ≡ Some old
+  put_value = put_there.1
+
+  pub put_sets : (new : List ℕ) → SetsAt m.entries (set_value_at m.entries place new) row old new
+  put_sets new = sets_at row m.entries place old new put_there.0 put_there.1
+
+-- a new key goes behind the others
+pub place_behind : {S : Type 0} (m : HashMap (List Value) (List ℕ) S) (row : List Value) (place : ℕ) → get_by (rows.eq-value.it row) m ≡ None
+    → place ≡ position_or_len (rows.eq-value.it row) (keys_of m.entries) → place ≡ length m.entries
+place_behind m row place none index =
+    index ∙ or_len-absent (rows.eq-value.it row) m.entries (absent_from_lookup (rows.eq-value.it row) m.entries none)
 
 -- ---- rows of a list, one after another
 

@@ -14,11 +14,14 @@ use Rattle.valuations.specs.machine.Bindings.{filled_from_row}
 use Rattle.valuations.proofs.ScopeLaws.{filled_unbound}
 use Rattle.indexmap.proofs.MapLemmas.{Found-position}
 use Rattle.windows.proofs.EntryLemmas.{grown_by, next_of, set_keys}
-use Rattle.std.proofs.lemmas.List.{get_or_default}
+use Rattle.std.proofs.lemmas.List.{map-append, get_or_default}
 use Rattle.windows.specs.machine.RowQueries.{eq_as_row}
 use Rattle.enf_data.specs.contracts.rows.RowPartialEq.TheImpl as rows
 use Rattle.std.specs.Prelude.{IfNone, ◌==◌}
-use Rattle.windows.specs.machine.RowIndexes.{IsIndexOf, KeepBuckets, PartIndex, bucket_at, part_cells}
+use Rattle.std.proofs.lemmas.List.{length-map}
+use Rattle.std.proofs.lemmas.Option.{slice_get-map}
+use Rattle.std.specs.Prelude.{IfSome}
+use Rattle.windows.specs.machine.RowIndexes.{IsIndexButLast, IsIndexOf, KeepBuckets, PartIndex, bucket_at, part_cells}
 
 module _ (test : List Value → Bool) where
   abbrev bucket : List (List Value × List ℕ) → List ℕ
@@ -385,3 +388,25 @@ module _ (P : List Value → Type 0) (rows : List (List Value)) where
 
   pub none_of_all : NonePasses rows → IsTrue false ↔ ((r : List Value) × Contains rows r × P r)
   none_of_all none = (λ no. absurd (false≢true no), λ some. absurd (none some.0 some.1 some.2))
+
+-- what stands at the place of the last row
+pub last_at : (among : List VarId) (es : List (List Value × List ℕ)) (place : ℕ) (index : Option PartIndex) (o : Option (List Value × List ℕ))
+    → o ≡ slice_get es place → (is : IsIndexButLast among (rows_of es) place index) → option_map (λ (e : List Value × List ℕ). e.0) o ≡ Some is.last
+last_at among es place index o at is =
+    ap (option_map (λ (e : List Value × List ℕ). e.0)) at ∙ sym (slice_get-map (λ (e : List Value × List ℕ). e.0) es place)
+    ∙ ap (λ rows. slice_get rows place) is.split ∙ ap (slice_get (is.front ++ is.last ∷ [])) is.at ∙ behind is.front
+  where
+    behind : (front : List (List Value)) → slice_get (front ++ is.last ∷ []) (length front) ≡ Some is.last
+    behind [] = refl
+    behind (row ∷ front) = behind front
+
+pub index_but_last : (among : List VarId) (es after : List (List Value × List ℕ)) (row : List Value) (new : List ℕ) (place : ℕ) (index : Option PartIndex) → place ≡ length es
+    → length row ≡ length among → IfSome index (IsIndexOf among (rows_of es)) → after ≡ es ++ (row, new) ∷ [] → IsIndexButLast among (rows_of after) place index
+index_but_last among es after row new place index at fits indexed grown = record {
+  front = rows_of es;
+  last = row;
+  split = ap rows_of grown ∙ map-append (λ (e : List Value × List ℕ). e.0) es ((row, new) ∷ []);
+  at = at ∙ sym (length-map es (λ (e : List Value × List ℕ). e.0));
+  fits = fits;
+  indexed = indexed;
+}

@@ -1,5 +1,5 @@
 //! What a committed step adds to a window.
-ghost use Rattle.std.specs.Prelude.{◌≡◌, ◌≤◌, [], Contains, IfOk, IfSome, None, OnErr, OnOk, length};
+ghost use Rattle.std.specs.Prelude.{◌≡◌, ◌≤◌, [], All, Contains, IfOk, IfSome, None, OnErr, OnOk, length};
 ghost use Rattle.enf_data.specs.meaning.Membership.{HasNoRepeats};
 ghost use Rattle.windows.specs.machine.DueQueues.{IsQueueAt};
 ghost use Rattle.windows.specs.machine.RowIndexes.{IsIndexOf};
@@ -13,34 +13,36 @@ use crate::queue::DueQueue;
 use crate::row_index::RowIndex;
 use enf_data::intervals::Interval;
 use enf_data::memory::NoMemory;
+use enf_data::rows::Row;
 use enf_data::terms::VarId;
-use valuations::Table;
 
-// Adds the time to those of each row of the table. Where memory has run out, nothing is left.
+// Adds the time to those of each of the rows. Where memory has run out, nothing is left.
 pub fn add_step(
     entries: &mut Entries,
     index: &mut Option<RowIndex>,
     queue: &mut DueQueue,
-    right: &Table,
+    among: &[VarId],
+    rows: Vec<Row>,
     interval: Interval,
     now: u64,
     pairs: usize,
 ) -> Result<usize, NoMemory>
-    requires distinct { HasNoRepeats right.now.columns }
-    requires kept { AreWindowEntries (length right.now.columns) now entries.old.entries }
+    requires distinct { HasNoRepeats among.now }
+    requires fit { All (λ row. length row ≡ length among.now) rows.items }
+    requires kept { AreWindowEntries (length among.now) now entries.old.entries }
     requires least { AreLeast interval now entries.old.entries }
-    requires indexed { IfSome index.old (IsIndexOf right.now.columns (rows_of entries.old.entries)) }
+    requires indexed { IfSome index.old (IsIndexOf among.now (rows_of entries.old.entries)) }
     requires queued { IsQueueAt interval now entries.old.entries queue.old }
     requires counted { pairs ≤ count_pairs entries.old.entries }
-    ensures among { OnOk result (AddAtMost now (Contains right.now.rows) entries.old.entries entries.new.entries) }
-    ensures added { OnOk result (AddsTimes interval now (Contains right.now.rows)
+    ensures among { OnOk result (AddAtMost now (Contains rows.items) entries.old.entries entries.new.entries) }
+    ensures added { OnOk result (AddsTimes interval now (Contains rows.items)
         entries.old.entries entries.new.entries) }
     ensures window { IfOk result
-        (IsWindow interval right.now.columns now entries.new.entries queue.new index.new) }
+        (IsWindow interval among.now now entries.new.entries queue.new index.new) }
     ensures none { OnErr result ((entries.new.entries ≡ []) × (index.new ≡ None)
         × (queue.new ≡ record { dues = []; far = 0 })) }
 {
-    match add_and_compact(entries, index, queue, right, interval, now, pairs) {
+    match add_and_compact(entries, index, queue, among, rows, interval, now, pairs) {
         Ok(left) => Ok(left),
         Err(error) => {
             let_all_go(entries, index, queue);
@@ -96,24 +98,25 @@ fn add_and_compact(
     entries: &mut Entries,
     index: &mut Option<RowIndex>,
     queue: &mut DueQueue,
-    right: &Table,
+    among: &[VarId],
+    rows: Vec<Row>,
     interval: Interval,
     now: u64,
     pairs: usize,
 ) -> Result<usize, NoMemory>
-    requires distinct { HasNoRepeats right.now.columns }
-    requires kept { AreWindowEntries (length right.now.columns) now entries.old.entries }
+    requires distinct { HasNoRepeats among.now }
+    requires fit { All (λ row. length row ≡ length among.now) rows.items }
+    requires kept { AreWindowEntries (length among.now) now entries.old.entries }
     requires least { AreLeast interval now entries.old.entries }
-    requires indexed { IfSome index.old (IsIndexOf right.now.columns (rows_of entries.old.entries)) }
+    requires indexed { IfSome index.old (IsIndexOf among.now (rows_of entries.old.entries)) }
     requires queued { IsQueueAt interval now entries.old.entries queue.old }
     requires counted { pairs ≤ count_pairs entries.old.entries }
-    ensures among { OnOk result (AddAtMost now (Contains right.now.rows) entries.old.entries entries.new.entries) }
-    ensures added { OnOk result (AddsTimes interval now (Contains right.now.rows)
+    ensures among { OnOk result (AddAtMost now (Contains rows.items) entries.old.entries entries.new.entries) }
+    ensures added { OnOk result (AddsTimes interval now (Contains rows.items)
         entries.old.entries entries.new.entries) }
     ensures window { IfOk result
-        (IsWindow interval right.now.columns now entries.new.entries queue.new index.new) }
+        (IsWindow interval among.now now entries.new.entries queue.new index.new) }
 {
-    let left = add_rows(entries, index, queue, right, interval, now, pairs)?;
-    let among = right.columns().as_slice();
+    let left = add_rows(entries, index, queue, among, rows, interval, now, pairs)?;
     compact_if_many(entries, index, queue, among, interval, now, left)
 }

@@ -1,10 +1,10 @@
 //! Rows with their times, as a window keeps them: each call is one look-up, or one for each row that it is given.
 ghost use Rattle.std.specs.Prelude.{◌≡◌, ◌≤◌, ◌↔◌, ◌⊎◌, ℕ, List, Some, IsTrue, OnOk, Contains, length};
-ghost use Rattle.std.specs.Prelude.{IfOk, IfSome, map};
+ghost use Rattle.std.specs.Prelude.{All, IfOk, IfSome, map};
 ghost use Rattle.enf_data.specs.meaning.Membership.{IsIn};
 ghost use Rattle.enf_data.specs.declared.values.Value.{Value as AnyValue};
 ghost use Rattle.valuations.specs.machine.Tables.{IsTable};
-ghost use Rattle.windows.specs.machine.RowIndexes.{IsIndexOf};
+ghost use Rattle.windows.specs.machine.RowIndexes.{IsIndexButLast, IsIndexOf};
 ghost use Rattle.windows.specs.machine.DueQueues.{AreInReach, AreUpToTime, IsQueueAt, IsSettledAt, KeepsDues};
 ghost use Rattle.windows.specs.machine.DueQueues.{due, waiting_of};
 ghost use Rattle.windows.specs.machine.Windows.{AreTables, kept_entries};
@@ -38,67 +38,84 @@ pub fn add_row(
     index: &mut Option<RowIndex>,
     queue: &mut DueQueue,
     among: &[VarId],
-    row: &Row,
+    row: Row,
     interval: Interval,
     now: u64,
     pairs: usize,
 ) -> Result<usize, NoMemory>
-    requires kept { AreWindowEntries (length row.now) now entries.old.entries }
+    requires kept { AreWindowEntries (length among.now) now entries.old.entries }
     requires least { AreLeast interval now entries.old.entries }
-    requires fits { length row.now ≡ length among.now }
+    requires fits { length row ≡ length among.now }
     requires indexed { IfSome index.old (IsIndexOf among.now (rows_of entries.old.entries)) }
     requires queued { IsQueueAt interval now entries.old.entries queue.old }
     requires counted { pairs ≤ count_pairs entries.old.entries }
-    ensures among { OnOk result (AddAtMost now (λ other. other ≡ row.now)
+    ensures among { OnOk result (AddAtMost now (λ other. other ≡ row) entries.old.entries entries.new.entries) }
+    ensures added { OnOk result (AddsTimes interval now (λ other. other ≡ row)
         entries.old.entries entries.new.entries) }
-    ensures added { OnOk result (AddsTimes interval now (λ other. other ≡ row.now)
-        entries.old.entries entries.new.entries) }
-    ensures kept { OnOk result (AreWindowEntries (length row.now) now entries.new.entries) }
+    ensures kept { OnOk result (AreWindowEntries (length among.now) now entries.new.entries) }
     ensures least { OnOk result (AreLeast interval now entries.new.entries) }
     ensures indexed { OnOk result (IfSome index.new (IsIndexOf among.now (rows_of entries.new.entries))) }
     ensures queued { OnOk result (IsQueueAt interval now entries.new.entries queue.new) }
     ensures counted { IfOk result (λ left. left ≤ count_pairs entries.new.entries) }
 {
-    let found = entries.get_index_of(row);
     let alloc = *entries.allocator();
-    push_due(queue, interval, now, found.unwrap_or(entries.len()))?;
-    if let Some(place) = found {
-        let more = entries[place].add(alloc, interval, now)?;
-        return Ok(pairs.saturating_add(more));
-    }
-    note_place(alloc, index, among, row, entries.len())?;
-    entries.insert(row.duplicate(alloc)?, Times::one(now))?;
-    Ok(pairs.saturating_add(1))
+    let (place, held) = entries.insert_full(row, Times::one(now))?;
+    push_due(queue, interval, now, place)?;
+    let Some(before) = held else {
+        note_last(alloc, index, among, entries, place)?;
+        return Ok(pairs.saturating_add(1));
+    };
+    let mut times = before;
+    let more = times.add(alloc, interval, now)?;
+    entries[place] = times;
+    Ok(pairs.saturating_add(more))
 }
 
-// Adds the time to those of each row of the table.
+// Notes the place of the last row, where there is an index.
+fn note_last(
+    alloc: Global,
+    index: &mut Option<RowIndex>,
+    among: &[VarId],
+    entries: &Entries,
+    place: usize,
+) -> Result<(), NoMemory>
+    requires { IsIndexButLast among.now (rows_of entries.now.entries) place index.old }
+    ensures { OnOk result (IfSome index.new (IsIndexOf among.now (rows_of entries.now.entries))) }
+{
+    match entries.get_index(place) {
+        Some((row, _times)) => note_place(alloc, index, among, row, place),
+        None => Ok(()),
+    }
+}
+
+// Adds the time to those of each row.
 pub fn add_rows(
     entries: &mut Entries,
     index: &mut Option<RowIndex>,
     queue: &mut DueQueue,
-    right: &Table,
+    among: &[VarId],
+    rows: Vec<Row>,
     interval: Interval,
     now: u64,
     pairs: usize,
 ) -> Result<usize, NoMemory>
-    requires kept { AreWindowEntries (length right.now.columns) now entries.old.entries }
+    requires fit { All (λ row. length row ≡ length among.now) rows.items }
+    requires kept { AreWindowEntries (length among.now) now entries.old.entries }
     requires least { AreLeast interval now entries.old.entries }
-    requires indexed { IfSome index.old (IsIndexOf right.now.columns (rows_of entries.old.entries)) }
+    requires indexed { IfSome index.old (IsIndexOf among.now (rows_of entries.old.entries)) }
     requires queued { IsQueueAt interval now entries.old.entries queue.old }
     requires counted { pairs ≤ count_pairs entries.old.entries }
-    ensures among { OnOk result (AddAtMost now (Contains right.now.rows) entries.old.entries entries.new.entries) }
-    ensures added { OnOk result (AddsTimes interval now (Contains right.now.rows)
+    ensures among { OnOk result (AddAtMost now (Contains rows.items) entries.old.entries entries.new.entries) }
+    ensures added { OnOk result (AddsTimes interval now (Contains rows.items)
         entries.old.entries entries.new.entries) }
-    ensures kept { OnOk result (AreWindowEntries (length right.now.columns) now entries.new.entries) }
+    ensures kept { OnOk result (AreWindowEntries (length among.now) now entries.new.entries) }
     ensures least { OnOk result (AreLeast interval now entries.new.entries) }
-    ensures indexed { OnOk result
-        (IfSome index.new (IsIndexOf right.now.columns (rows_of entries.new.entries))) }
+    ensures indexed { OnOk result (IfSome index.new (IsIndexOf among.now (rows_of entries.new.entries))) }
     ensures queued { OnOk result (IsQueueAt interval now entries.new.entries queue.new) }
     ensures counted { IfOk result (λ left. left ≤ count_pairs entries.new.entries) }
 {
-    let among = right.columns().as_slice();
     let mut left = pairs;
-    for row in right.rows() {
+    for row in rows {
         left = add_row(entries, index, queue, among, row, interval, now, left)?;
     }
     Ok(left)

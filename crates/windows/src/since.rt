@@ -1,5 +1,5 @@
 //! Windows of the operators `since`, `once` and `historically`.
-ghost use Rattle.std.specs.Prelude.{◌≡◌, ◌↔◌, ◌≤◌, ◌+◌, ◌*◌, ℕ, [], IfOk, OnOk, length};
+ghost use Rattle.std.specs.Prelude.{◌≡◌, ◌↔◌, ◌≤◌, ◌+◌, ◌*◌, ℕ, [], All, IfOk, OnOk, length};
 ghost use Rattle.enf_data.specs.meaning.Membership.{HasNoRepeats};
 ghost use Rattle.enf_data.specs.meaning.Valuations.{Valuation as Bound};
 ghost use Rattle.valuations.specs.machine.Tables.{IsTable, HasValuation, Relation};
@@ -90,6 +90,13 @@ impl SinceWindow {
         ensures { result.now ≡ self.now.columns }
     {
         &self.columns
+    }
+
+    /// The time of the step that was committed last, and 0 where none is.
+    pub fn last(&self) -> u64
+        ensures { result ≡ self.now.last }
+    {
+        self.last
     }
 
     /// How many rows it holds, or how many times of rows that end some day, whichever are more. Rows and times that it
@@ -212,6 +219,25 @@ impl SinceWindow {
         ensures ok { OnOk result (IsCommittedBy self.old time (SurvivesFor surviving.now) right.now self.new) }
         ensures kind { IsSameKind self.old self.new }
     {
+        let alloc = *self.entries.allocator();
+        let copy = right.duplicate(alloc)?;
+        self.commit_rows(time, surviving, copy.into_rows())
+    }
+
+    /// So too, where the rows that are right are given away: they are moved into the window.
+    pub fn commit_rows(
+        &mut self,
+        time: u64,
+        surviving: &Surviving<'_>,
+        right: Vec<Row>,
+    ) -> Result<(), NoMemory>
+        requires later { self.old.last ≤ time }
+        requires surviving_columns { FitsColumns self.old.columns surviving.now }
+        requires fit { All (λ row. length row ≡ length self.old.columns) right.items }
+        ensures ok { OnOk result (IsCommittedBy self.old time (SurvivesFor surviving.now)
+            (record { columns = self.old.columns; rows = right.items }) self.new) }
+        ensures kind { IsSameKind self.old self.new }
+    {
         let left = forget_dues(
             &mut self.entries,
             &mut self.queue,
@@ -225,6 +251,7 @@ impl SinceWindow {
             &mut self.entries,
             &mut self.index,
             &mut self.queue,
+            self.columns.as_slice(),
             right,
             self.interval,
             time,

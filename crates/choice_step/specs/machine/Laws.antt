@@ -9,7 +9,7 @@ use Rattle.std.specs.Prelude.{ℕ, Bool, List, [], map, ◌≡◌, ◌+◌, ◌�
 use Rattle.std.specs.Prelude.{Option, IsTrue, All}
 use Rattle.enf_formula.specs.meaning.Satisfaction.{Formula}
 use Rattle.trace_meaning.specs.declared.kinds.StepKind.TheVariants.{Inserted}
-use Rattle.trace_meaning.specs.meaning.Traces.{Leads, IsCause, event_of, Record, recorded}
+use Rattle.trace_meaning.specs.meaning.Traces.{Leads, IsCause, event_of, Record, last_time, recorded}
 use Rattle.plan_terms.specs.meaning.Plans.{NothingClashes, IsCaused, IsSuppressed, Plan}
 use Rattle.plan_terms.specs.machine.WakingNames.{waking_names}
 use Rattle.obligations.specs.declared.actions.Action.{Action}
@@ -17,6 +17,7 @@ use Rattle.obligations.specs.declared.instances.Instance.{Instance}
 use Rattle.obligations.specs.machine.AskablePlans.{CanAskOf, CanAskRoots}
 use Rattle.obligations.specs.machine.PlanClasses.{PlansStand}
 use Rattle.obligations.specs.machine.Successors.{LeadsAt}
+use Rattle.obligations.specs.machine.UnmetGoals.{AreUnmet}
 use Rattle.obligations.specs.meaning.Pending.{PendingAfter, HasDeadline, NoneIsOver, Pend}
 use Rattle.pending.specs.machine.Moments.{step_moment}
 use Rattle.pending.specs.machine.PendingLists.{IsPendingListOf, PendingList}
@@ -44,11 +45,12 @@ AsleepDecidesNothing = (guards : List (Formula × List VarId)) (plans : List Pla
     → AllAreAsleep guards plans inserted time events pending
     → Decides plans trace pending.instances inserted time events [] events
 
--- what is pending stays as it is, and nothing is begun
+-- what is pending stays as it is, where its goals were not met before, and nothing is begun
 abbrev pub AsleepChangesNothing : Type 0
 AsleepChangesNothing = (guards : List (Formula × List VarId)) (plans : List Plan) (trace : List Step)
     (inserted : Bool) (time : ℕ) (events : List Event) (pending : PendingList)
     → AllAreAsleep guards plans inserted time events pending
+    → PlansStand plans → last_time trace ≤ time → AreUnmet plans trace pending.instances
     → PendingAfter plans (trace_with_step trace time events) pending.instances pending.instances
 
 -- each comes of itself

@@ -1,9 +1,12 @@
 -- What the calls of an event set do to its list of events, and how it is kept.
 use Rattle.enf_data.specs.declared.events.Event.{Event}
 use Rattle.enf_data.specs.meaning.Membership.{HasNoRepeats, TakesOut}
-use Rattle.enf_data.specs.meaning.Values.{has_event}
+use Rattle.enf_data.specs.meaning.Values.{has_event, row_cmp}
 use Rattle.std.specs.List.{filter}
+use Rattle.std.specs.List.Sorted.{IsStrictlySortedBy}
+use Rattle.std.specs.Ordering.{nat_cmp, ordering_then}
 use Rattle.std.specs.Prelude.{◌≡◌, Bool, true, false, List, [], ◌∷◌, ◌++◌, Contains, not}
+use Rattle.std.specs.declared.cmp.Ordering.{Ordering}
 
 -- what an insertion of x does: x goes last where it was not there, which the answer says, and else nothing changes
 pub record InsertsItem {X : Type 0} (x : X) (before : List X) (new : Bool) (after : List X) : Type 0 where
@@ -34,3 +37,11 @@ TakesOutEach {X = X} before (x ∷ xs) after = (next : List X) × TakesOut x bef
 abbrev pub TakenOutAreGone : Type 0
 TakenOutAreGone = (before gone after : List Event) → HasNoRepeats before → TakesOutEach before gone after
     → after ≡ without_events before gone
+
+-- the order of events: by the numbers of their names, and then by their arguments
+abbrev pub event_order : Event → Event → Ordering
+event_order a b = ordering_then (nat_cmp a.name.0 b.name.0) (row_cmp a.args b.args)
+
+-- each event is before those after it
+abbrev pub AreRisingEvents : List Event → Type 0
+AreRisingEvents events = IsStrictlySortedBy event_order events

@@ -2,6 +2,7 @@
 use Rattle.enf_data.specs.declared.events.Event.{Event}
 use Rattle.enf_data.specs.declared.events.NameId.{NameId}
 use Rattle.enf_data.specs.declared.steps.Step.{Step}
+use Rattle.enf_data.specs.meaning.Data.{IsTrace}
 use Rattle.enf_data.specs.meaning.Membership.{HasNoRepeats}
 use Rattle.std.specs.List.{AllByRecursion}
 use Rattle.std.specs.Prelude.{◌≡◌, List, IsTrue, map, ℕ, ◌+◌, ◌^◌, ◌≤◌, length, Bool, ◌∷◌}
@@ -61,6 +62,7 @@ pub record CanDecideAt (plans : List Plan) (r : Remembered) (time : ℕ) : Type 
 -- it is a trace that is remembered: its length and last time, what its guards' operators need of it, and what it leaves
 -- pending
 pub record RemembersTrace (plans : List Plan) (r : Remembered) (trace : List Step) : Type 0 where
+  pub is_trace : IsTrace trace
   pub position : r.position ≡ length trace
   pub past : PastStands trace r.past
   pub last : IsLastTime trace r.last

@@ -10,9 +10,10 @@ use Rattle.valuations.specs.machine.Tables.{Relation, HasValuation}
 use Rattle.windows.specs.machine.Slots.{Slot, with_rows, GivesLast}
 use Rattle.windows.specs.machine.Windows.{Window, WindowKeeps, AnswersBy, IsCommittedBy}
 use Rattle.monitorable_guard.specs.meaning.Safety.{denial}
+use Rattle.prev_rows.specs.machine.GrownSlots.{IsGrownBy}
 use Rattle.trace_meaning.specs.meaning.Traces.{last_time}
 use Rattle.past_state.specs.declared.survivors.Survivors.{Survivors}
-use Rattle.past_state.specs.machine.Newcomers.{BeginsWith}
+use Rattle.past_state.specs.machine.Newcomers.{BeginsWith, GrowsBy}
 use Rattle.past_state.specs.machine.OperatorMeaning.{WindowStands, SlotStands}
 use Rattle.past_state.specs.machine.Survivors.{ValuationSurvives}
 use Rattle.past_state.specs.meaning.KeptRows.{all_operators}
@@ -131,3 +132,11 @@ PrevGoesOn = (trace : List Step) (step : Step) (interval : Interval) (g : Formul
     → ((v : Valuation) → BindsColumns v slot.columns → HasValuation rows v ↔ Sat (trace ++ step ∷ [])
     (length trace) v g)
     → SlotStands (trace ++ step ∷ []) interval g (with_last slot step.time rows)
+
+-- with one step more a slot that grows by the rows that come stands for the longer trace
+abbrev pub PrevGrows : Type 0
+PrevGrows = (trace : List Step) (step : Step) (interval : Interval) (g begun : Formula) (slot after : Slot)
+    (right : Relation) → IsTrue (is_past g) → GrowsBy g begun → SlotStands trace interval g slot
+    → ((v : Valuation) → BindsColumns v slot.columns
+    → HasValuation right v ↔ Sat (trace ++ step ∷ []) (length trace) v begun)
+    → IsGrownBy slot step.time right after → SlotStands (trace ++ step ∷ []) interval g after

@@ -10,21 +10,24 @@ use Rattle.windows.specs.machine.Slots.{LastHasColumns, IsUpToTime, Slot}
 use Rattle.windows.specs.machine.Windows.{Window, IsCommittedBy, IsSameKind}
 use Rattle.monitorable_guard.specs.machine.PresentMeaning.{outermost}
 use Rattle.monitorable_guard.specs.meaning.Safety.{denial}
+use Rattle.prev_rows.specs.machine.GrownSlots.{IsGrownBy}
 use Rattle.past_state.specs.declared.memories.Memory.{Memory}
 use Rattle.past_state.specs.declared.memories.StepTables.{StepTables}
 use Rattle.past_state.specs.machine.Laws.{with_last, SinceStands, OnceStands}
 use Rattle.past_state.specs.machine.LeftSides.{AsksLeft, CanAskLeft, AreSurvivors}
-use Rattle.past_state.specs.machine.Newcomers.{AsksRight}
+use Rattle.past_state.specs.declared.prev_operands.Operand.{Operand}
+use Rattle.past_state.specs.machine.Newcomers.{AsksOperand, AsksRight, guard_in}
 use Rattle.past_state.specs.machine.OperandQueries.{GuardAsks, CanAskRows, AnswersRows}
 use Rattle.past_state.specs.machine.OperatorMeaning.{SlotStands}
 use Rattle.past_state.specs.machine.Survivors.{SurvivorsFit, survives_by, ValuationSurvives}
 use Rattle.past_state.specs.declared.memories.Memory.TheVariants as memories
+use Rattle.past_state.specs.declared.prev_operands.Operand.TheVariants as asked
 use Rattle.past_state.specs.declared.survivors.Survivors.TheVariants as told
 
 -- what is kept for the operator
 abbrev pub IsFor : Formula → Memory → Type 0
 IsFor (Prev place interval g) (memories.Prev slot operand) =
-    GuardAsks g [] operand × AreFreeVariables g slot.columns × (slot.interval ≡ interval)
+    AsksOperand g operand × AreFreeVariables g slot.columns × (slot.interval ≡ interval)
     × LastHasColumns slot.columns slot.last
 IsFor (Once place interval g) (memories.Once window right) =
     AsksRight interval g right × AreFreeVariables g window.columns × (window.interval ≡ interval)
@@ -44,7 +47,7 @@ columns_of (memories.Since window left left_tables right) = window.columns
 
 -- the operands can be asked, with the tables of their outermost operators
 abbrev pub CanStep : List Relation → Memory → Type 0
-CanStep tables (memories.Prev slot operand) = CanAskRows operand slot.columns tables
+CanStep tables (memories.Prev slot operand) = CanAskRows (guard_in operand) slot.columns tables
 CanStep tables (memories.Once window right) = CanAskRows right window.columns tables
 CanStep tables (memories.Since window left left_tables right) =
     CanAskRows right window.columns (drop left_tables tables) × CanAskLeft window.columns tables left
@@ -52,7 +55,8 @@ CanStep tables (memories.Since window left left_tables right) =
 
 -- what a step brings, with the tables of the outermost operators of the operands
 abbrev pub AreStepTables : List Event → List Relation → Memory → StepTables → Type 0
-AreStepTables events tables (memories.Prev slot operand) t = AnswersRows events tables operand slot.columns t.right
+AreStepTables events tables (memories.Prev slot operand) t =
+    AnswersRows events tables (guard_in operand) slot.columns t.right
 AreStepTables events tables (memories.Once window right) t =
     AnswersRows events tables right window.columns t.right × (t.surviving ≡ told.All)
 AreStepTables events tables (memories.Since window left left_tables right) t =
@@ -80,9 +84,15 @@ memory_given (memories.Once window right) time t = window_given window time (sur
 memory_given (memories.Since window left left_tables right) time t = window_given window time (survives_by t.surviving)
     t.right
 
+-- the slot after a step that brings these rows: they alone, or beside those of the step before
+abbrev pub IsSlotAfter : Operand → Slot → ℕ → Relation → Slot → Type 0
+IsSlotAfter (asked.Whole guard) slot time right after = after ≡ with_last slot time right
+IsSlotAfter (asked.Growing guard) slot time right after = IsGrownBy slot time right after
+
 -- what is kept after the step is committed: the slot or the window with it, and the same guards
 abbrev pub IsCommittedTo : Memory → ℕ → StepTables → Memory → Type 0
-IsCommittedTo (memories.Prev slot operand) time t m = m ≡ memories.Prev (with_last slot time t.right) operand
+IsCommittedTo (memories.Prev slot operand) time t m =
+    (after : Slot) × IsSlotAfter operand slot time t.right after × (m ≡ memories.Prev after operand)
 IsCommittedTo (memories.Once window right) time t m =
     (after : Window) × IsCommittedBy window time (ValuationSurvives t.surviving) t.right after
     × (m ≡ memories.Once after right)

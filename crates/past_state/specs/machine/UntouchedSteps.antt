@@ -3,7 +3,7 @@
 use Rattle.enf_data.specs.declared.events.Event.{Event}
 use Rattle.enf_data.specs.declared.steps.Step.{Step}
 use Rattle.enf_data.specs.declared.terms.VarId.{VarId}
-use Rattle.std.specs.Prelude.{All, List, [], ◌≡◌, ℕ, ◌≤◌, ◌∷◌, ◌++◌, map}
+use Rattle.std.specs.Prelude.{All, List, [], ℕ, ◌≤◌, ◌∷◌, ◌++◌, map}
 use Rattle.enf_formula.specs.machine.FormulaViews.{tree_of}
 use Rattle.windows.specs.machine.Slots.{IsBareSlot}
 use Rattle.monitorable_guard.specs.machine.NeededEvents.{HoldsForNone}
@@ -13,6 +13,7 @@ use Rattle.past_state.specs.declared.memories.Memory.{Memory}
 use Rattle.past_state.specs.declared.memories.StepTables.{StepTables}
 use Rattle.past_state.specs.declared.operators.OperatorState.{OperatorState}
 use Rattle.past_state.specs.machine.Memories.{columns_of}
+use Rattle.past_state.specs.machine.Newcomers.{guard_in}
 use Rattle.past_state.specs.machine.Past.{Past, PastStands}
 use Rattle.past_state.specs.declared.left_sides.Left.TheVariants as side
 use Rattle.past_state.specs.declared.memories.Memory.TheVariants as memories
@@ -26,7 +27,8 @@ KeepsAllRows events (side.ByRow guard) = ⊥
 
 -- no row is right, and all that are kept survive; a slot had no rows before
 abbrev pub IsUntouched : List Event → Memory → Type 0
-IsUntouched events (memories.Prev slot operand) = IsBareSlot slot × HoldsForNone events (tree_of operand.formula)
+IsUntouched events (memories.Prev slot operand) =
+    IsBareSlot slot × HoldsForNone events (tree_of (guard_in operand).formula)
 IsUntouched events (memories.Once window right) = HoldsForNone events (tree_of right.formula)
 IsUntouched events (memories.Since window left left_tables right) =
     HoldsForNone events (tree_of right.formula) × KeepsAllRows events left

@@ -5,7 +5,7 @@ use Rattle.std.specs.Prelude.{List, Option, Some, None, ◌≡◌, ℕ, ◌<◌,
 use Rattle.plan_terms.specs.meaning.Plans.{Plan, AlwaysPlan}
 use Rattle.sleepers.specs.declared.patterns.Pattern.{Pattern}
 use Rattle.sleepers.specs.machine.Patterns.{HasNone}
-use Rattle.wake_patterns.specs.machine.WakePatterns.{early_patterns, wake_patterns}
+use Rattle.wake_patterns.specs.machine.WakePatterns.{early_patterns, waiting_patterns}
 use Rattle.obligations.specs.declared.instances.Instance.{Instance}
 use Rattle.obligations.specs.meaning.Obligations.{last_position, time_now}
 use Rattle.obligations.specs.meaning.Pending.{node_of}
@@ -13,7 +13,7 @@ use Rattle.obligations.specs.meaning.Pending.{node_of}
 -- the patterns of an instance, where it has a node
 abbrev pub wake_patterns_at : Option Plan → Instance → Option (List Pattern)
 wake_patterns_at None i = None
-wake_patterns_at (Some node) i = wake_patterns i.valuation node
+wake_patterns_at (Some node) i = waiting_patterns i.valuation node
 
 abbrev pub wake_patterns_of : List Plan → Instance → Option (List Pattern)
 wake_patterns_of plans i = wake_patterns_at (node_of plans i) i

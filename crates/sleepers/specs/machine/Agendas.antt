@@ -14,7 +14,7 @@ module _ {T : Type 0} where
   HaveOwnPlaces entries =
       (x y : Entry T) → Contains entries x → Contains entries y → x.place ≡ y.place → x ≡ y
 
-  -- in front of so many entries there is room for the place
+  -- after so many entries there is room for the place
   pub record IsGapFor (place : Place) (entries : List (Entry T)) (at : ℕ) : Type 0 where
     pub within : at ≤ length entries
     pub front : (x : Entry T) → Contains (take at entries) x → IsPlaceBefore x.place place
@@ -25,12 +25,13 @@ module _ {T : Type 0} where
   LeavesAsleep event entry =
       (patterns : List Pattern) → entry.patterns ≡ Some patterns → HasNone patterns (event ∷ [])
 
-  -- some entries, among them all of which a pattern matches the event
+  -- some entries, among them each of which a pattern matches the event
   pub record IsRousedOf (event : Event) (all some : List (Entry T)) : Type 0 where
     pub among : IsContainedIn some all
     pub roused : (x : Entry T) → Contains all x → Contains some x ⊎ LeavesAsleep event x
 
-  -- all that were there are still there, each of all the entries of which a pattern matches the event is, and no others
+  -- all that were there are still there, each of all the entries of which a pattern matches the event is, and maybe
+  -- others of them
   pub record Rouses (event : Event) (all before after : List (Entry T)) : Type 0 where
     pub kept : IsContainedIn before after
     pub among : IsContainedIn after all

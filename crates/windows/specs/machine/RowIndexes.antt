@@ -3,7 +3,7 @@ use Rattle.enf_data.specs.declared.terms.VarId.{VarId}
 use Rattle.enf_data.specs.declared.values.Value.{Value}
 use Rattle.std.specs.Map.{lookup}
 use Rattle.std.specs.Option.{option_map_or}
-use Rattle.std.specs.Prelude.{ℕ, List, [], Option, Some, map, Contains, slice_get, ◌≡◌}
+use Rattle.std.specs.Prelude.{ℕ, List, [], ◌∷◌, ◌++◌, Option, Some, map, Contains, IfSome, length, slice_get, ◌≡◌}
 use Rattle.valuations.specs.machine.Tables.{row_cell}
 use Rattle.windows.specs.machine.RowQueries.{cells_eq}
 
@@ -35,3 +35,13 @@ pub record IsIndexOf (among : List VarId) (rows : List (List Value)) (index : Pa
   pub within : (x : VarId) → Contains index.columns x → Contains among x
   pub noted : (place : ℕ) (row : List Value) → slice_get rows place ≡ Some row
       → Contains (bucket_at index.buckets (part_cells index.columns among row)) place
+
+-- where there is an index, it is that of all rows but the last, which stands at the place
+pub record IsIndexButLast (among : List VarId) (rows : List (List Value)) (place : ℕ) (index : Option PartIndex)
+    : Type 0 where
+  pub front : List (List Value)
+  pub last : List Value
+  pub split : rows ≡ front ++ last ∷ []
+  pub at : place ≡ length front
+  pub fits : length last ≡ length among
+  pub indexed : IfSome index (IsIndexOf among front)

@@ -30,8 +30,8 @@ returns-in-Some-refusal_of-clause-ok c =
     let later = c.keep_first-in-Some-refusal_of.ensures ∙ ap (option_or c.match-declared.refused) (sym c.in-Some-refusal_of.is) in
     elim c.match-declared.branch [
       | in-Some-declared w ↦
-          let name = ap (λ (e : Event). e.name) c.in-Ok.ensures.value ∙ ap (λ (found : NameId × Bor (List Sort)). found.0) w.t-26-is in
-          let sorts = ap (λ (found : NameId × Bor (List Sort)). found.1.now) w.t-26-is ∙ w.as_slice.ensures in
+          let name = ap (λ (e : Event). e.name) c.in-Ok.ensures.value ∙ ap (λ (found : NameId × Bor (List Sort)). found.0) w.t-29-is in
+          let sorts = ap (λ (found : NameId × Bor (List Sort)). found.1.now) w.t-29-is ∙ w.as_slice-in-Some-declared.ensures in
           event_placed c.args.signature.now c.args.bytes.now c.args.from c.in-Some.next c.in-Some-behind_mark.inside c.in_ok-next.next c.in-Some.name.now _ row c.read_row.new.clash
           c.in-Some.ensures.some c.in-Some-behind_mark.ensures.some c.in_ok-next.ensures.ok c.args.events.now.items _ c.args.refused.now c.match-declared.refused c.refusal_of.result _ later
           w.in-Some-declared.number w.in-Some-declared.entry.now w.in-Some-declared.ensures.entry w.in-Some-declared.ensures.number sorts
@@ -50,8 +50,8 @@ returns-in_default-refusal_of-clause-ok c =
     let later = still_refused c.match-declared.refused ∙ ap (option_or c.match-declared.refused) (sym c.in_default-refusal_of.is) in
     elim c.match-declared.branch [
       | in-Some-declared w ↦
-          let name = ap (λ (e : Event). e.name) c.in-Ok.ensures.value ∙ ap (λ (found : NameId × Bor (List Sort)). found.0) w.t-26-is in
-          let sorts = ap (λ (found : NameId × Bor (List Sort)). found.1.now) w.t-26-is ∙ w.as_slice.ensures in
+          let name = ap (λ (e : Event). e.name) c.in-Ok.ensures.value ∙ ap (λ (found : NameId × Bor (List Sort)). found.0) w.t-29-is in
+          let sorts = ap (λ (found : NameId × Bor (List Sort)). found.1.now) w.t-29-is ∙ w.as_slice-in-Some-declared.ensures in
           event_placed c.args.signature.now c.args.bytes.now c.args.from c.in-Some.next c.in-Some-behind_mark.inside c.in_ok-next.next c.in-Some.name.now _ row c.read_row.new.clash
           c.in-Some.ensures.some c.in-Some-behind_mark.ensures.some c.in_ok-next.ensures.ok c.args.events.now.items _ c.args.refused.now c.match-declared.refused c.refusal_of.result _ later
           w.in-Some-declared.number w.in-Some-declared.entry.now w.in-Some-declared.ensures.entry w.in-Some-declared.ensures.number sorts

@@ -1,6 +1,11 @@
 use Rattle.monitorable_guard.proofs.Vocabulary.{rules, ◌∙◌, is_lt, always_returns_same, take_all, ranks_by, key_of, event_cmp}
-use Rattle.monitorable_guard.proofs.EventLemmas.{event_cmp_total, sorted_by_name}
+use Rattle.monitorable_guard.proofs.EventLemmas.{event_cmp_total, rising_by_name, sorted_by_name}
 use Rattle.monitorable_guard.proofs.events.many_in_order.Goals as goal
+
+pub returns-then-rise : goal.returns-then-rise
+returns-then-rise c = rising_by_name c.args.events.now c.loop-event.order.items
+    (c.loop-event.invariant ∙ take_all c.loop-event.event-index c.args.events.now c.loop-event-test.false)
+    (c.requires c.if-rise.true)
 
 pub returns : goal.returns
 returns c = sorted_by_name c.args.events.now c.loop-event.order.items _

@@ -19,8 +19,8 @@ adds g c =
     let T = g.P.Past.tables c.args.present.now.past.now in
     let v = bound_in c.args.scope.now in
     let f = tree_of c.args.formula.now in
-    subst (λ before. AddsRows c.args.columns before c.gather_told.new.out.items (IsGuardAnswer E T v f c.args.columns)) c.new-found.ensures.items
-    (subst (λ l. AddsRows l c.new-found.result.items c.gather_told.new.out.items (IsGuardAnswer E T v f l)) c.as_slice-2.ensures c.in_ok-gather_told.ensures)
+    subst (λ before. AddsRows c.args.columns before c.gather_told.new.out.items (IsGuardAnswer E T v f c.args.columns)) c.in_ok-found.ensures.items
+    (subst (λ l. AddsRows l c.in_ok-found.found.items c.gather_told.new.out.items (IsGuardAnswer E T v f l)) c.as_slice-2.ensures c.in_ok-gather_told.ensures)
 
 pub from_rows-requires-clause-distinct : goal.from_rows-requires-clause-distinct
 from_rows-requires-clause-distinct g c = rising_distinct variable_cmp_total c.args.columns c.requires.open.rising

@@ -13,6 +13,7 @@ returns-clause-tables c = run_stands c.dependence.ensures.names (record {
   begun_goes_on = c.once_begun.ensures.goes_on;
   prev_answers = c.prev.ensures.answers;
   prev_goes_on = c.prev.ensures.goes_on;
+  prev_grows = c.prev_grows.ensures;
 })
 
 pub returns-clause-committed : goal.returns-clause-committed
@@ -27,4 +28,5 @@ returns-clause-committed c = commit_stands c.dependence.ensures.names (record {
   begun_goes_on = c.once_begun.ensures.goes_on;
   prev_answers = c.prev.ensures.answers;
   prev_goes_on = c.prev.ensures.goes_on;
+  prev_grows = c.prev_grows.ensures;
 })

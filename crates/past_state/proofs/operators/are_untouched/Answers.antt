@@ -1,4 +1,4 @@
-use Rattle.past_state.proofs.Vocabulary.{[], ◌∷◌, ◌++◌, ◌∙◌, ap, take, get_or, sym, subst, take_all, take_more, All-push, OperatorState}
+use Rattle.past_state.proofs.Vocabulary.{[], ◌∷◌, ◌++◌, ◌∙◌, ap, take, sym, subst, take_all, take_more, All-push, OperatorState}
 use Rattle.past_state.specs.machine.UntouchedSteps.{AreUntouched, IsUntouched}
 use Rattle.past_state.proofs.operators.are_untouched.Goals as goal
 

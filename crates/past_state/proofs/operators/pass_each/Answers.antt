@@ -1,7 +1,6 @@
-use Rattle.past_state.proofs.Vocabulary.{◌≡◌, ◌∙◌, ◌<◌, length, take, sym, ap, subst, refl, arith, take_all, AllCommitted, OperatorState}
+use Rattle.past_state.proofs.Vocabulary.{refl, arith, OperatorState}
 use Rattle.past_state.proofs.CommitLemmas.{commit_none, same_all, same_length, same_set}
 use Rattle.past_state.proofs.UntouchedLemmas.{next_passed, untouched_here, up_to_there}
-use Rattle.past_state.specs.machine.UntouchedSteps.{idle_tables}
 use Rattle.past_state.proofs.operators.pass_each.Goals as goal
 
 pub loop-place-init : goal.loop-place-init

@@ -1,4 +1,4 @@
-use Rattle.past_state.proofs.Vocabulary.{◌∙◌, ◌↔◌, List, [], ap, sym, subst, IfOk-weaker, tree_of, none_in_nil, AreFreeVariables, AreOpen, AllComeFrom, BoundFormula, HasValuation, HoldsNow, BindsColumns, IsTable, Value, Valuation, Contains}
+use Rattle.past_state.proofs.Vocabulary.{◌∙◌, ◌↔◌, sym, subst, IfOk-weaker, tree_of, none_in_nil, AreFreeVariables, AllComeFrom, BoundFormula, HasValuation, HoldsNow, BindsColumns, IsTable, Valuation, Contains}
 use Rattle.monitorable_guard.specs.machine.NeededEvents.{HoldsForNone}
 use Rattle.past_state.proofs.ColumnLemmas.{open_free}
 use Rattle.past_state.proofs.row_filters.right_rows.Goals as goal

@@ -1,22 +1,34 @@
-use Rattle.windows.proofs.Vocabulary.{◌∙◌, ◌<◌, length, take, get_or, ap, subst, Contains, AddsTimes, AreWindowEntries, table_row-length, IfSome}
-use Rattle.windows.specs.machine.RowIndexes.{IsIndexOf}
-use Rattle.windows.specs.machine.WindowEntries.{rows_of}
-use Rattle.windows.proofs.EntryLemmas.{adds_then, at_most_then, item_there, next_of}
+use Rattle.windows.proofs.Vocabulary.{◌∙◌, ◌≡◌, ◌++◌, ◌∷◌, [], List, Value, append_assoc, arith, length, ap, sym, subst, Contains, All-contains, Contains-append_right}
+use Rattle.windows.proofs.EntryLemmas.{adds_then, at_most_then}
 use Rattle.windows.proofs.entries.add_rows.Goals as goal
+
+-- the row that comes next is one of all
+among : (all yielded rest : List (List Value)) (row : List Value) → all ≡ yielded ++ row ∷ rest → Contains all row
+among all yielded rest row is = subst (λ l. Contains l row) (sym is) (Contains-append_right yielded (row ∷ rest) row (0, omega arith, λ j. row))
+
+pub add_row-requires-clause-fits : goal.add_row-requires-clause-fits
+add_row-requires-clause-fits c =
+    let yielded = c.loop-row.yielded in
+    let is = sym c.into_iter-row-iterator.ensures.into_iter_gives.0 ∙ c.loop-row.invariant.2 ∙ ap (λ l. yielded ++ l) c.in-Some.ensures.steps.0 in
+    All-contains (λ row. length row ≡ length c.args.among.now) c.args.rows.items c.in-Some.row c.requires.fit (among c.args.rows.items yielded c.next.new.self.rest.items c.in-Some.row is)
 
 pub loop-row-preserved : goal.loop-row-preserved
 loop-row-preserved c =
-    let below = subst (λ l. c.loop-row.row-index < length l) c.rows-row-items.ensures.rows c.loop-row-test.true in
-    let is = c.row-item.is ∙ ap (λ l. get_or l c.loop-row.row-index c.row-item.result) c.rows-row-items.ensures.rows in
-    let there = item_there c.args.right.now.rows c.loop-row.row-index c.row-item.result below is in (
-      at_most_then c.args.now (Contains c.args.right.now.rows) c.row-item.result c.args.entries.now.entries c.loop-row.entries.entries c.add_row.new.entries.entries there
-          c.loop-row.invariant.0 c.in_ok-left.ensures.among,
-      next_of (λ l. AddsTimes c.args.interval c.args.now (Contains l) c.args.entries.now.entries c.add_row.new.entries.entries) c.args.right.now.rows c.loop-row.row-index c.row-item.result below is
-          (adds_then c.args.interval c.args.now (take c.loop-row.row-index c.args.right.now.rows) c.row-item.result c.args.entries.now.entries c.loop-row.entries.entries
-          c.add_row.new.entries.entries c.loop-row.invariant.1 c.in_ok-left.ensures.added),
-      subst (λ n. AreWindowEntries n c.args.now c.add_row.new.entries.entries) (table_row-length c.args.right.now c.row-item.result c.rows-row-items.ensures.table there) c.in_ok-left.ensures.kept,
+    let yielded = c.loop-row.yielded in
+    let row = c.in-Some.row in
+    let rest = c.next.new.self.rest.items in
+    let is = c.loop-row.invariant.2 ∙ ap (λ l. yielded ++ l) c.in-Some.ensures.steps.0 in (
+      tt,
+      tt,
+      is ∙ sym (append_assoc yielded (row ∷ []) rest),
+      at_most_then c.args.now (Contains c.into_iter-row-iterator.result.rest.items) row c.args.entries.now.entries c.loop-row.entries.entries c.add_row.new.entries.entries
+          (among c.into_iter-row-iterator.result.rest.items yielded rest row is)
+          c.loop-row.invariant.3 c.in_ok-left.ensures.among,
+      adds_then c.args.interval c.args.now yielded row c.args.entries.now.entries c.loop-row.entries.entries c.add_row.new.entries.entries
+          c.loop-row.invariant.4 c.in_ok-left.ensures.added,
+      c.in_ok-left.ensures.kept,
       c.in_ok-left.ensures.least,
-      subst (λ l. IfSome c.add_row.new.index (IsIndexOf l (rows_of c.add_row.new.entries.entries))) (c.as_slice-among.ensures ∙ c.columns.ensures.columns) c.in_ok-left.ensures.indexed,
+      c.in_ok-left.ensures.indexed,
       c.in_ok-left.ensures.queued,
       c.in_ok-left.ensures.counted,
     )

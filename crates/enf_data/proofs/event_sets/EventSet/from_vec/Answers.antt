@@ -2,9 +2,12 @@ use Rattle.enf_data.proofs.Vocabulary.{[], ◌∷◌, ◌++◌, ap, append_assoc
 use Rattle.enf_data.proofs.TableKeys.{distinct_kept, firsts_more, ok_through}
 use Rattle.enf_data.proofs.event_sets.EventSet.from_vec.Goals as goal
 
+pub returns-then-do_rise : goal.returns-then-do_rise
+returns-then-do_rise c = distinct_kept [] c.args.events.items (subst HasNoRepeats c.as_slice.ensures.value (c.do_rise.ensures.distinct c.if-do_rise.true))
+
 pub returns-then-are_distinct : goal.returns-then-are_distinct
 returns-then-are_distinct c =
-    distinct_kept [] c.args.events.items (subst HasNoRepeats c.as_slice.ensures.value (c.are_distinct.ensures.0 c.if-are_distinct.true))
+    distinct_kept [] c.args.events.items (subst HasNoRepeats c.as_slice-then-len-le-MOST_SEARCHED.ensures.value (c.are_distinct.ensures.0 c.if-are_distinct.true))
 
 pub loop-event-preserved : goal.loop-event-preserved
 loop-event-preserved c =

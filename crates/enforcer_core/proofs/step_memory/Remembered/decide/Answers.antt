@@ -1,4 +1,4 @@
-use Rattle.enforcer_core.proofs.Vocabulary.{Contains, List, [], ◌∷◌, ◌++◌, length-append, map, refl, sym, subst, arith, none_in_nil, Event, NameId, Option, Step}
+use Rattle.enforcer_core.proofs.Vocabulary.{◌≤◌, Contains, List, [], ◌∷◌, ◌++◌, length-append, map, refl, sym, subst, arith, none_in_nil, last_time, Event, NameId, Option, RemembersTrace, Step}
 use Rattle.enforcer_core.proofs.Vocabulary.{plan_of, waking_names, PendingAfter, placed_guard, Decides, ActsFrom, is_inserted, AllSleep, Action}
 use Rattle.std.specs.List.{AllByRecursion}
 use Rattle.obligations.specs.machine.AskablePlans.{CanAskOf, CanAskRoots}
@@ -31,8 +31,10 @@ returns-then-is_idle-clause-decided c =
           (subst (λ (w : List (Option (List NameId))). AllSleep w c.as_slice.result.now) c.requires.facts.wakes idle.asleep);
     } in
     let untouched = subst (λ l. AreUntouched l before.past.operators) c.as_slice.ensures.events idle.untouched in
-    let goes : (trace : List Step) → PendingAfter plans (trace ++ step ∷ []) before.pending.instances before.pending.instances =
-    λ trace. c.asleep_is_idle.ensures.goes guards plans trace inserted c.args.time c.args.events before.pending all in
+    let goes : (trace : List Step) → RemembersTrace plans before trace → last_time trace ≤ c.args.time
+    → PendingAfter plans (trace ++ step ∷ []) before.pending.instances before.pending.instances =
+    λ trace remembers later. c.asleep_is_idle.ensures.goes guards plans trace inserted c.args.time c.args.events before.pending all asked.named later
+    (c.pending_is_unmet.ensures plans trace before.pending.instances asked.named remembers.is_trace remembers.pending) in
     record {
       kind_is = refl;
       time_is = refl;
@@ -51,14 +53,15 @@ returns-then-is_idle-clause-decided c =
         decided = subst (λ (l : List Action). Decides plans trace before.pending.instances inserted c.args.time c.args.events l c.args.events) (sym c.new.ensures)
             (c.asleep_is_idle.ensures.decides guards plans trace inserted c.args.time c.args.events before.pending all);
       };
-      goes = λ trace remembers later. goes trace;
+      goes = goes;
       remembers = λ trace remembers later.
           let at = remembers.position in
           record {
+            is_trace = c.trace_grows.ensures.trace trace step remembers.is_trace later c.as_slice.ensures.distinct;
             position = omega (arith, at, length-append trace (step ∷ []));
             last = (omega (arith, length-append trace (step ∷ [])), sym (c.trace_grows.ensures.last trace step));
             past = c.in_ok-pass.ensures.stands c.args.events untouched trace later remembers.past;
-            pending = c.traces_grow.ensures.pending plans trace step before.pending.instances before.pending.instances remembers.pending (goes trace);
+            pending = c.traces_grow.ensures.pending plans trace step before.pending.instances before.pending.instances remembers.pending (goes trace remembers later);
           };
     }
 

@@ -70,6 +70,7 @@ returns-clause-decided c =
       remembers = λ trace remembers later.
           let at = remembers.position in
           record {
+            is_trace = c.trace_grows.ensures.trace trace (record { time = c.args.time; events = events }) remembers.is_trace later c.as_slice-given.ensures.distinct;
             position = omega (arith, long, at, length-append trace (record { time = c.args.time; events = events } ∷ []));
             last = (omega (arith, length-append trace (record { time = c.args.time; events = events } ∷ [])), sym (c.trace_grows.ensures.last trace (record { time = c.args.time; events = events })));
             past = stand trace (record { time = c.args.time; events = events }) refl refl later remembers.past are;

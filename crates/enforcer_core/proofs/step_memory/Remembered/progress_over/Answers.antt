@@ -9,10 +9,11 @@ returns-clause-goes c =
     subst (λ (events : List Event). PendingAfter (map plan_of c.args.plans.now)
     (trace ++ record { time = c.args.time; events = events } ∷ []) c.args.self.now.pending.instances
     c.progress.new.self.instances) same
-    (goes (trace ++ record { time = c.args.time; events = c.of-events.result } ∷ [])
+    (goes trace (record { time = c.args.time; events = c.of-events.result })
     (c.now_stands.ensures c.args.self.now.past trace _ (sym same)
     (subst (λ (events : List Event). GuardsWillHold c.args.self.now.past c.args.time events c.args.tables.now) (sym same) c.requires.hold)
-    remembers.past (sym remembers.position) later)
+    remembers.past (sym remembers.position) later) later
+    (c.pending_is_unmet.ensures (map plan_of c.args.plans.now) trace c.args.self.now.pending.instances c.requires.can.named remembers.is_trace remembers.pending)
     (subst (λ (events : List Event). AreServed (map plan_of c.args.plans.now) c.args.inserted (trace ++ record { time = c.args.time; events = events } ∷ []) c.args.self.now.pending.instances)
     (sym same) served)))
     c.progress.ensures.goes

@@ -1,5 +1,11 @@
-use Rattle.past_state.proofs.Vocabulary.{◌↔◌, Contains, sym, subst, IfOk-weaker, AreKeepable, ArePairsOf, StoresFor}
+use Rattle.past_state.proofs.Vocabulary.{◌↔◌, Contains, sym, subst, IfOk-weaker, AreKeepable, ArePairsOf, KeptPair, StoresFor}
+use Rattle.past_state.specs.declared.memories.Memory.TheVariants as memories
 use Rattle.past_state.proofs.memories.Memory.kept.Goals as goal
+
+pub returns-in-Prev-clause-exact : goal.returns-in-Prev-clause-exact
+returns-in-Prev-clause-exact c =
+    IfOk-weaker c.kept.result (λ pairs. (p : KeptPair) → Contains pairs.items p ↔ StoresFor (memories.Prev c.in-Prev.slot c.in-Prev.operand) p) _
+    (λ pairs exact p. subst (λ m. Contains pairs.items p ↔ StoresFor m p) (sym c.in-Prev.is) (exact p)) c.kept.ensures.exact
 
 pub returns-in-Once-clause-rising : goal.returns-in-Once-clause-rising
 returns-in-Once-clause-rising c =

@@ -1,5 +1,6 @@
-use Rattle.past_state.proofs.Vocabulary.{[], ap, refl, sym, subst, on_ok_weaker, IsCommittedTo, IsSameMemory, LastHasColumns, Relation, Slot}
+use Rattle.past_state.proofs.Vocabulary.{[], refl, sym, subst, on_ok_weaker, IsCommittedTo, IsSameMemory}
 use Rattle.past_state.specs.declared.memories.Memory.TheVariants as memories
+use Rattle.past_state.proofs.UntouchedLemmas.{slot_passed}
 use Rattle.past_state.specs.machine.Memories.{columns_of}
 use Rattle.past_state.specs.machine.UntouchedSteps.{IsUntouched, nothing_brought}
 use Rattle.past_state.proofs.memories.Memory.pass.Goals as goal
@@ -8,15 +9,17 @@ pub pass-requires-clause-bare : goal.pass-requires-clause-bare
 pass-requires-clause-bare c = (subst (IsUntouched c.requires.untouched.0) c.in-Prev.is c.requires.untouched.1).0
 
 pub returns-in-Prev-clause-ok : goal.returns-in-Prev-clause-ok
-returns-in-Prev-clause-ok c = subst (λ m. IsCommittedTo m c.args.time (nothing_brought (columns_of m)) (memories.Prev c.pass.new.self c.in-Prev.operand)) (sym c.in-Prev.is)
-    (ap (λ slot. memories.Prev slot c.in-Prev.operand) (c.pass.ensures (record { columns = c.in-Prev.slot.columns; rows = [] }) refl refl))
+returns-in-Prev-clause-ok c = on_ok_weaker c.pass.result (λ passed.
+    let bare = (subst (IsUntouched c.requires.untouched.0) c.in-Prev.is c.requires.untouched.1).0 in
+    subst (λ m. IsCommittedTo m c.args.time (nothing_brought (columns_of m)) (memories.Prev c.pass.new.self c.in-Prev.operand)) (sym c.in-Prev.is) (
+      c.pass.new.self,
+      slot_passed c.in-Prev.operand c.in-Prev.slot c.args.time c.pass.new.self bare (passed (record { columns = c.in-Prev.slot.columns; rows = [] }) refl refl),
+      refl,
+    )) c.pass.ensures.ok
 
 pub returns-in-Prev-clause-kind : goal.returns-in-Prev-clause-kind
-returns-in-Prev-clause-kind c =
-    let none : Relation = record { columns = c.in-Prev.slot.columns; rows = [] } in
-    let is = c.pass.ensures none refl refl in
-    subst (λ m. IsSameMemory m (memories.Prev c.pass.new.self c.in-Prev.operand)) (sym c.in-Prev.is)
-    (c.pass.new.self, ap (λ (s : Slot). s.interval) is, ap (λ (s : Slot). s.columns) is, λ _. subst (λ (s : Slot). LastHasColumns c.in-Prev.slot.columns s.last) (sym is) refl, refl)
+returns-in-Prev-clause-kind c = subst (λ m. IsSameMemory m (memories.Prev c.pass.new.self c.in-Prev.operand)) (sym c.in-Prev.is)
+    (c.pass.new.self, c.pass.ensures.kind.interval_is, c.pass.ensures.kind.columns_are, c.pass.ensures.kind.fits, refl)
 
 pub returns-in-Once-clause-ok : goal.returns-in-Once-clause-ok
 returns-in-Once-clause-ok c = on_ok_weaker c.pass-in-Once.result (λ committed.

@@ -1,10 +1,19 @@
+use Rattle.past_state.proofs.Vocabulary.{◌≡◌, ◌⊎◌, [], Contains, IsFree, AreFreeVariables, BindsFresh, AnswersRows}
 use Rattle.past_state.proofs.Vocabulary.{◌↔◌, drop, sym, refl, subst, tree_of, FitOperators, HoldsNow, outermost, CanStep, AreStepTables, AllComeFrom, Valuation, BindsColumns, HasValuation}
 use Rattle.past_state.proofs.ColumnLemmas.{answers_all}
 use Rattle.past_state.specs.declared.survivors.Survivors.TheVariants as told
 use Rattle.past_state.proofs.memories.Memory.step_tables.Goals as goal
 
+pub right_rows-requires-clause-bound : goal.right_rows-requires-clause-bound
+right_rows-requires-clause-bound c = subst (λ g. g.bound ≡ []) (sym c.guard.ensures) (subst (CanStep c.args.past.now) c.in-Prev.is c.requires).bound
+
 pub right_rows-requires-clause-fresh : goal.right_rows-requires-clause-fresh
-right_rows-requires-clause-fresh c = (subst (CanStep c.args.past.now) c.in-Prev.is c.requires).fresh
+right_rows-requires-clause-fresh c = subst (λ g. BindsFresh (tree_of g.formula) (λ x. Contains g.bound x ⊎ IsFree x (tree_of g.formula))) (sym c.guard.ensures)
+    (subst (CanStep c.args.past.now) c.in-Prev.is c.requires).fresh
+
+pub right_rows-requires-clause-tabled : goal.right_rows-requires-clause-tabled
+right_rows-requires-clause-tabled c = subst (λ g. FitOperators (outermost (tree_of g.formula)) c.args.past.now) (sym c.guard.ensures)
+    (subst (CanStep c.args.past.now) c.in-Prev.is c.requires).tabled
 
 pub right_rows-requires-in-Once-clause-fresh : goal.right_rows-requires-in-Once-clause-fresh
 right_rows-requires-in-Once-clause-fresh c = (subst (CanStep c.args.past.now) c.in-Once.is c.requires).fresh
@@ -20,9 +29,10 @@ right_rows-requires-in-Since-clause-tabled c =
 pub returns-in_ok-right-in-Prev : goal.returns-in_ok-right-in-Prev
 returns-in_ok-right-in-Prev c =
     subst (λ m. AreStepTables c.args.events.now c.args.past.now m (record { surviving = told.All; right = c.in_ok-right-in-Prev.right })) (sym c.in-Prev.is)
-    (answers_all c.args.events.now c.args.past.now c.in-Prev.operand c.in-Prev.slot.columns c.in_ok-right-in-Prev.right
-    (subst (CanStep c.args.past.now) c.in-Prev.is c.requires).free c.in_ok-right-in-Prev.ensures.table c.in_ok-right-in-Prev.ensures.free c.in_ok-right-in-Prev.ensures.rows
-    c.in_ok-right-in-Prev.ensures.known)
+    (subst (λ g. AnswersRows c.args.events.now c.args.past.now g c.in-Prev.slot.columns c.in_ok-right-in-Prev.right) c.guard.ensures
+    (answers_all c.args.events.now c.args.past.now c.guard.result.now c.in-Prev.slot.columns c.in_ok-right-in-Prev.right
+    (subst (λ g. AreFreeVariables (tree_of g.formula) c.in-Prev.slot.columns) (sym c.guard.ensures) (subst (CanStep c.args.past.now) c.in-Prev.is c.requires).free)
+    c.in_ok-right-in-Prev.ensures.table c.in_ok-right-in-Prev.ensures.free c.in_ok-right-in-Prev.ensures.rows c.in_ok-right-in-Prev.ensures.known))
 
 pub returns-in_ok-right-in-Once : goal.returns-in_ok-right-in-Once
 returns-in_ok-right-in-Once c =

@@ -1,8 +1,8 @@
-use Rattle.past_state.proofs.Vocabulary.{List, [], ap, sym, subst, All-nil, AreUpToTimeOf, IsPast, IsUpToTimeOf, AllCommitted, OperatorState, on_ok_weaker}
+use Rattle.past_state.proofs.Vocabulary.{List, ap, sym, subst, All-nil, AreUpToTimeOf, IsPast, IsUpToTimeOf, AllCommitted, OperatorState, on_ok_weaker}
 use Rattle.past_state.proofs.CommitLemmas.{all_up_to}
 use Rattle.past_state.proofs.PastLemmas.{still_past}
 use Rattle.past_state.proofs.UntouchedLemmas.{fit_idle, passed_stands}
-use Rattle.past_state.specs.machine.UntouchedSteps.{AreUntouched, PassedWillStand, idle_tables}
+use Rattle.past_state.specs.machine.UntouchedSteps.{idle_tables}
 use Rattle.past_state.proofs.past.PastState.pass.Goals as goal
 
 pub returns-then-is_empty-clause-up_to : goal.returns-then-is_empty-clause-up_to

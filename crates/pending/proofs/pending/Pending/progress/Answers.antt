@@ -35,9 +35,10 @@ invariant_of-self-2 c = (
 
 pub returns-clause-goes : goal.returns-clause-goes
 returns-clause-goes c = on_ok_weaker c.put_each.result
-    (λ puts. goes c.args.now.now (map plan_of c.args.plans.now) c.args.inserted c.self.inside.steps c.self.inside.sleepers.entries c.carry.new.sleepers.entries c.in_ok-more.more.items
+    (λ puts before newest is later. goes c.args.now.now (map plan_of c.args.plans.now) c.args.inserted c.self.inside.steps c.self.inside.sleepers.entries c.carry.new.sleepers.entries c.in_ok-more.more.items
     c.in_ok-next.ensures.1 c.self.invariant.1 c.args.self.now _ c.self.view_is c.requires.keeps c.requires.instances c.in_ok-more.ensures.carries
-    c.put_each.new.sleepers.entries c.steps_go_in_order.ensures.in_order puts c.pending_exists.ensures.after c.sleepers_stay.ensures.stays c.sleepers_stay.ensures.early_stays) c.put_each.ensures.puts
+    c.put_each.new.sleepers.entries c.steps_go_in_order.ensures.in_order puts c.pending_exists.ensures.after c.sleepers_stay.ensures.stays c.sleepers_stay.ensures.early_stays
+    c.requires.named before newest is later) c.put_each.ensures.puts
 
 pub returns-clause-leads : goal.returns-clause-leads
 returns-clause-leads c = on_ok_weaker c.put_each.result

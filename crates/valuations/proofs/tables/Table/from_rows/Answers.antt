@@ -1,5 +1,6 @@
 use Rattle.valuations.proofs.Vocabulary.{rules, ◌≡◌, length, subst, sym, dedup, is_lt, eq_by_cmp, dedup_same, answers_always, ranks_by, All-permutation, All-dedup, row_cmp, IsTable, row_cmp_total}
 use Rattle.std.specs.List.{All}
+use Rattle.std.specs.List.Sorted.{IsStrictlySortedBy}
 use Rattle.valuations.proofs.RowOrder.{sorted_set, IsSortedSet}
 use Rattle.valuations.proofs.tables.Table.from_rows.Goals as goal
 
@@ -20,7 +21,14 @@ table c = record {
 }
 
 pub invariant_of-result : goal.invariant_of-result
-invariant_of-result c = table c
+invariant_of-result c = record {
+  distinct = c.requires.distinct;
+  fits = c.requires.fits;
+  rising = subst (IsStrictlySortedBy row_cmp) c.as_slice.ensures.value (c.do_rise.ensures c.if-do_rise.true);
+}
+
+pub invariant_of-result-2 : goal.invariant_of-result-2
+invariant_of-result-2 c = table c
 
 pub returns-clause-table : goal.returns-clause-table
 returns-clause-table c = table c

@@ -1,0 +1,2 @@
+pub mod GrownSlots
+pub mod LastRows
