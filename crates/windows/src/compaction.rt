@@ -78,7 +78,7 @@ fn are_many(rows: usize, dues: usize, pairs: usize) -> bool
     ensures { IsFalse result → (rows ≤ 2 * pairs + 64) × (dues ≤ 2 * pairs + 64) }
 {
     let bound = pairs.saturating_add(64);
-    bound.saturating_add(pairs / 4) < rows || bound.saturating_add(pairs) < dues
+    bound.saturating_add(pairs / 3) < rows || bound.saturating_add(pairs) < dues
 }
 
 // Takes the rows out that have no times; the others stay in their order.
