@@ -2,8 +2,8 @@
 use Rattle.monitorable_guard.proofs.Vocabulary.{◌≡◌, ℕ, ◌+◌, ◌-◌, ◌^◌, ◌<◌, ◌≤◌, Bool, true, false, not, ◌==◌, Fits, w64, ◌⊎◌, inl, inr, ⊎_elim, List, [], ◌∷◌, ◌++◌, length, get_or, take, drop}
 use Rattle.monitorable_guard.proofs.Vocabulary.{Result, Ok, Err, IfOk, IsSome, IsTrue, Contains, ◌↔◌, refl, sym, ap, subst, ◌∙◌, arith, length-append, length-drop, Equal, Formula, Implies, Forall}
 use Rattle.monitorable_guard.proofs.Vocabulary.{false≢true, eqb-true, drop-drop, take_more, Contains-append_left, Contains-append_right, Contains-push_cases, IfOk-weaker, Valuation, no_values}
-use Rattle.monitorable_guard.proofs.Vocabulary.{value_at, value_of_term, Event, Term, Var, Const, VarId, Value, all_from, here, none_in_nil, some_or_none, table_row-length, filled_from_row, Relation}
-use Rattle.monitorable_guard.proofs.Vocabulary.{IsTable, AddsRows, AmongRows, IsSolution, AreBoundOrFree, AreOpenUnder, CanAskFormula, RowsFitColumns, HasAnswers, IsGuardAnswer, IsBoundBy}
+use Rattle.monitorable_guard.proofs.Vocabulary.{value_at, value_of_term, Event, Term, Var, Const, VarId, Value, here, none_in_nil, some_or_none, table_row-length, filled_from_row, Relation}
+use Rattle.monitorable_guard.proofs.Vocabulary.{IsTable, AddsRows, IsSolution, AreBoundOrFree, AreOpenUnder, CanAskFormula, RowsFitColumns, HasAnswers, IsGuardAnswer, IsBoundBy}
 use Rattle.monitorable_guard.proofs.Vocabulary.{FitOperators, HoldsNow, outermost, tables_beyond, Safe, FreeWithin, Assigns, HasValuation}
 use Rattle.monitorable_guard.proofs.AddedTables.{has_added}
 use Rattle.monitorable_guard.proofs.PartLemmas.{ask_nested}

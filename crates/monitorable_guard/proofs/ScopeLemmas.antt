@@ -1,7 +1,7 @@
 -- What lists of variables say of free variables.
-use Rattle.monitorable_guard.proofs.Vocabulary.{◌≡◌, Vec, Bool, inl, inr, ⊎_elim, List, ◌++◌, All, Contains, IsTrue, ◌↔◌, Result, Ok, Err, IfOk, sym, subst, All-contains, Contains-append_left}
-use Rattle.monitorable_guard.proofs.Vocabulary.{Contains-append_right, Global, VarId, all_from, Formula, IsFree, AreFreeVariables, among_or_not, Contains-append, FreeWithin, FreeUnder, FreeAlike}
-use Rattle.monitorable_guard.proofs.Vocabulary.{BoundOrFreeIn}
+use Rattle.monitorable_guard.proofs.Vocabulary.{◌≡◌, Bool, inl, inr, ⊎_elim, List, ◌++◌, All, Contains, IsTrue, ◌↔◌, Result, Ok, Err, IfOk, sym, subst, All-contains, Contains-append_left}
+use Rattle.monitorable_guard.proofs.Vocabulary.{Contains-append_right, VarId, all_from, Formula, IsFree, AreFreeVariables, among_or_not, Contains-append, FreeWithin, FreeUnder, FreeAlike}
+use Rattle.monitorable_guard.proofs.Vocabulary.{AddsVariables, BoundOrFreeIn}
 
 pub within_decided : (f : Formula) (free these bound : List VarId) (b : Bool) → AreFreeVariables f free → these ≡ free → IsTrue b ↔ All (Contains bound) these
     → IsTrue b ↔ FreeWithin f (Contains bound)
@@ -26,13 +26,11 @@ free_decided f free these xs b are is told = (
   λ each. told.1 (all_from (Contains these) xs (λ x there. subst (λ l. Contains l x) (sym is) ((are.exact x).1 (each x there)))),
 )
 
-pub with_decided : {E : Type 0} (f : Formula) (free bound these : List VarId) (r : Result (Vec VarId Global) E) → AreFreeVariables f free → these ≡ free
-    → IfOk r (λ all. all.items ≡ bound ++ these) → IfOk r (λ all. (x : VarId) → Contains all.items x ↔ BoundOrFreeIn (Contains bound) f x)
-with_decided f free bound these (Err e) are is told = tt
-with_decided f free bound these (Ok all) are is told = λ x. (
-  λ there. ⊎_elim (λ front. inl front) (λ back. inr ((are.exact x).0 (subst (λ l. Contains l x) is back))) (Contains-append bound these x (subst (λ l. Contains l x) told there)),
-  λ either. subst (λ l. Contains l x) (sym told) (⊎_elim (λ front. Contains-append_left bound these x front)
-      (λ free. Contains-append_right bound these x (subst (λ l. Contains l x) (sym is) ((are.exact x).1 free))) either),
+-- a scope to which the free variables were added
+pub with_added : (f : Formula) (bound start all : List VarId) → start ≡ bound → AddsVariables (λ x. IsFree x f) start all → (x : VarId) → Contains all x ↔ BoundOrFreeIn (Contains bound) f x
+with_added f bound start all is a x = (
+  λ there. ⊎_elim (λ before. inl (subst (λ l. Contains l x) is before)) (λ free. inr free) (a.only x there),
+  λ either. ⊎_elim (λ before. a.kept x (subst (λ l. Contains l x) (sym is) before)) (λ free. a.added x free) either,
 )
 
 pub alike_from : (g h : Formula) (bound left right : List VarId) → ((x : VarId) → Contains left x ↔ BoundOrFreeIn (Contains bound) g x)

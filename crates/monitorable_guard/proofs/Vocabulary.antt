@@ -49,11 +49,13 @@ pub use Rattle.enf_data.specs.meaning.Membership.{HasNoRepeats, IsIn, IsUpTo}
 pub use Rattle.enf_data.specs.meaning.Valuations.{BindsColumns, Valuation, no_values, onto_values, valuation_of, value_at, value_of_term, values_of_terms, variable_cmp, with_values}
 pub use Rattle.enf_data.specs.meaning.Values.{has_event, row_cmp}
 pub use Rattle.enf_formula.proofs.Dependence.{agree_back}
+pub use Rattle.enf_formula.proofs.Gathering.{adds_both, adds_same, adds_term, last_or_before, there_last}
 pub use Rattle.enf_formula.proofs.SameValues.{AreSameValues-some, AreSameValues-sym}
 pub use Rattle.enf_formula.specs.machine.Agreement.{AgreeOnFreeVariables}
 pub use Rattle.enf_formula.specs.machine.Cases.{variable_x}
 pub use Rattle.enf_formula.specs.machine.FormulaViews.{tree_of}
 pub use Rattle.enf_formula.specs.machine.Laws.{FreeVariablesDecide, IsStable}
+pub use Rattle.enf_formula.specs.machine.Variables.{AddsVariables}
 pub use Rattle.enf_formula.specs.machine.FormulaShape.{BindsFresh, formula_size, is_past}
 pub use Rattle.enf_formula.specs.meaning.Satisfaction.{Always, And, AreFreeVariables, AreNumbersInOrder, AreSameValues, AtMost, Atom, Classically, Equal, Eventually, Exists, False, Forall, Formula}
 pub use Rattle.enf_formula.specs.meaning.Satisfaction.{HeldSince, Historically, HoldsAnywhere, Implies, IsEventAmong, IsFree, Less, Next, Not, Once, Or, Prev, Sat, Since, True, Until, elapsed}

@@ -29,6 +29,13 @@ pub(crate) struct Conjunct<'f> {
     first: usize,
 }
 
+// What conjuncts are asked as, and the variables that are bound after them.
+#[derive(Drop)]
+struct Turned {
+    asked: Asked,
+    scope: Vec<VarId>,
+}
+
 // What a formula lists where some variables are bound, the less the earlier.
 #[derive(Clone, Copy, PartialEq, Eq, PartialOrd, Ord)]
 enum Reach {
@@ -72,7 +79,8 @@ pub fn ordered(
         Formula::And(_, _, _) => {
             let all = conjuncts(alloc, formula, first)?;
             let turn = in_turn(alloc, all, bound)?;
-            ordered_turn(alloc, turn.as_slice(), bound)
+            let turned = ordered_turn(alloc, turn.as_slice(), bound)?;
+            Ok(turned.asked)
         }
         Formula::Or(place, g, h) => ordered_either(alloc, *place, g, h, first, bound),
         Formula::Implies(place, g, h) => ordered_condition(alloc, *place, g, h, first, bound),
@@ -143,23 +151,29 @@ fn ordered_condition(
 
 // The conjunction of those in turn, each ordered in itself under the variables of those before it.
 #[cycle(ordering)]
-fn ordered_turn(alloc: Global, turn: &[Conjunct<'_>], bound: &[VarId]) -> Result<Asked, NoMemory>
+fn ordered_turn(alloc: Global, turn: &[Conjunct<'_>], bound: &[VarId]) -> Result<Turned, NoMemory>
     requires some { 0 < length turn.now }
     requires room { EachPlaced (placed_conjuncts turn.now) (λ p. p.first + length (outermost p.formula) < 2 ^ 64) }
     requires safe { AreSafeInTurn (Contains bound.now) (placed_conjuncts turn.now) }
-    ensures same { IfOk result (λ a. IsReordered (placed_conjuncts turn.now) (tree_of a.formula) a.numbers.items) }
-    ensures safe { IfOk result (λ a. Safe (tree_of a.formula) (Contains bound.now)) }
+    ensures same { IfOk result (λ t. IsReordered (placed_conjuncts turn.now) (tree_of t.asked.formula)
+        t.asked.numbers.items) }
+    ensures safe { IfOk result (λ t. Safe (tree_of t.asked.formula) (Contains bound.now)) }
+    ensures scope { IfOk result (λ t. (x : Variable) → Contains t.scope.items x
+        ↔ BoundOrFreeIn (Contains bound.now) (tree_of t.asked.formula) x) }
 {
     let before = turn.len() - 1;
     let last = &turn[before];
     if before == 0 {
-        return ordered(alloc, last.formula, last.first, bound);
+        let asked = ordered(alloc, last.formula, last.first, bound)?;
+        let scope = with_free(alloc, bound, &asked.formula)?;
+        return Ok(Turned { asked, scope });
     }
     let left = ordered_turn(alloc, &turn[..before], bound)?;
-    let scope = with_free(alloc, bound, &left.formula)?;
-    let right = ordered(alloc, last.formula, last.first, scope.as_slice())?;
-    let place = left.formula.place();
-    Asked::and(alloc, place, left, right)
+    let right = ordered(alloc, last.formula, last.first, left.scope.as_slice())?;
+    let scope = with_free(alloc, left.scope.as_slice(), &right.formula)?;
+    let place = left.asked.formula.place();
+    let asked = Asked::and(alloc, place, left.asked, right)?;
+    Ok(Turned { asked, scope })
 }
 
 // The conjuncts of a formula.
@@ -210,8 +224,10 @@ fn in_turn<'f>(
     let mut left = conjuncts;
     let mut scope = Vec::from_slice(alloc, bound)?;
     let mut turn = Vec::with_capacity(alloc, left.len())?;
+    let mut from = 0;
     while !left.is_empty() {
-        let next = next_place(alloc, left.as_slice(), scope.as_slice())?;
+        let next = next_place(alloc, left.as_slice(), scope.as_slice(), from)?;
+        from = next;
         let conjunct = left.remove(next);
         scope = with_free(alloc, scope.as_slice(), conjunct.formula)?;
         turn.push(conjunct)?;
@@ -219,8 +235,14 @@ fn in_turn<'f>(
     Ok(turn)
 }
 
-// The place of the one that is asked next: of those that can be, the first of least reach.
-fn next_place(alloc: Global, left: &[Conjunct<'_>], scope: &[VarId]) -> Result<usize, NoMemory>
+// The place of the one that is asked next: of those that can be, one of least reach. It looks first where the last one
+// was, since conjuncts of the same variables mostly stand together.
+fn next_place(
+    alloc: Global,
+    left: &[Conjunct<'_>],
+    scope: &[VarId],
+    from: usize,
+) -> Result<usize, NoMemory>
     requires some { 0 < length left.now }
     requires safe { AreSafeInTurn (Contains scope.now) (placed_conjuncts left.now) }
     ensures within { IfOk result (λ place. place < length left.now) }
@@ -229,11 +251,12 @@ fn next_place(alloc: Global, left: &[Conjunct<'_>], scope: &[VarId]) -> Result<u
 {
     let mut next = 0;
     let mut least = reach_of(alloc, left[0].formula, scope)?;
-    for place in 1..left.len() {
+    for step in 0..left.len() {
         // Nothing is less, and most of many events of the same variables come to this.
         if least == Reach::Test {
             return Ok(next);
         }
+        let place = from.wrapping_add(step) % left.len();
         let formula = left[place].formula;
         let reach = reach_of(alloc, formula, scope)?;
         if reach < least && is_safe(alloc, formula, scope)? {

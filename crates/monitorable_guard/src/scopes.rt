@@ -1,12 +1,14 @@
 //! The free variables of formulas, against those that are bound.
-ghost use Rattle.std.specs.Prelude.{◌≡◌, ◌↔◌, ◌++◌, IfOk, IsTrue, All, Contains};
+ghost use Rattle.std.specs.Prelude.{◌≡◌, ◌↔◌, ◌++◌, IfOk, OnOk, IsTrue, All, Contains};
 ghost use Rattle.enf_formula.specs.machine.FormulaViews.{tree_of};
+ghost use Rattle.enf_formula.specs.machine.Variables.{AddsVariables};
 ghost use Rattle.enf_formula.specs.meaning.Satisfaction.{IsFree};
+ghost use Rattle.enf_data.specs.declared.terms.Term.TheVariants.{Var};
 ghost use Rattle.enf_data.specs.declared.terms.VarId.{VarId as Variable};
 ghost use Rattle.monitorable_guard.specs.meaning.Safety.{BoundOrFreeIn, FreeWithin, FreeAlike, FreeUnder};
 
 use enf_data::memory::NoMemory;
-use enf_data::terms::VarId;
+use enf_data::terms::{Term, VarId};
 use enf_formula::Formula;
 use std::alloc::Global;
 
@@ -14,8 +16,30 @@ pub fn is_free_within(alloc: Global, formula: &Formula, bound: &[VarId]) -> Resu
     ensures { IfOk result (λ within. IsTrue within
         ↔ FreeWithin (tree_of formula.now) (Contains bound.now)) }
 {
-    let free = formula.free_vars(alloc)?;
-    Ok(are_all_in(free.as_slice(), bound))
+    match formula {
+        Formula::Atom(_, _, terms) => Ok(are_terms_within(terms.as_slice(), bound)),
+        Formula::And(_, g, h) => {
+            Ok(is_free_within(alloc, g, bound)? && is_free_within(alloc, h, bound)?)
+        }
+        _ => {
+            let free = formula.free_vars(alloc)?;
+            Ok(are_all_in(free.as_slice(), bound))
+        }
+    }
+}
+
+// Whether each of the terms that is a variable is bound.
+fn are_terms_within(terms: &[Term], bound: &[VarId]) -> bool
+    ensures { IsTrue result ↔ ((x : Variable) → Contains terms.now (Var x) → Contains bound.now x) }
+{
+    for term in terms {
+        if let Term::Var(x) = term {
+            if !is_in(*x, bound) {
+                return false;
+            }
+        }
+    }
+    true
 }
 
 // Whether each free variable of the body is one of these or bound.
@@ -61,8 +85,66 @@ pub fn with_free(alloc: Global, bound: &[VarId], formula: &Formula) -> Result<Ve
     ensures { IfOk result (λ all. (x : Variable) → Contains all.items x
         ↔ BoundOrFreeIn (Contains bound.now) (tree_of formula.now) x) }
 {
-    let free = formula.free_vars(alloc)?;
-    joined(alloc, bound, free.as_slice())
+    let mut all = Vec::from_slice(alloc, bound)?;
+    add_free(alloc, formula, &mut all)?;
+    Ok(all)
+}
+
+// Adds the variables that are free in the formula.
+fn add_free(alloc: Global, formula: &Formula, all: &mut Vec<VarId>) -> Result<(), NoMemory>
+    ensures { OnOk result (AddsVariables (λ x. IsFree x (tree_of formula.now)) all.old.items all.new.items) }
+{
+    match formula {
+        Formula::Atom(_, _, terms) => add_terms(terms.as_slice(), all),
+        Formula::And(_, g, h) => {
+            add_free(alloc, g, all)?;
+            add_free(alloc, h, all)
+        }
+        _ => {
+            let free = formula.free_vars(alloc)?;
+            add_each(free.as_slice(), all)
+        }
+    }
+}
+
+// Adds the terms that are variables.
+fn add_terms(terms: &[Term], all: &mut Vec<VarId>) -> Result<(), NoMemory>
+    ensures { OnOk result (AddsVariables (λ x. Contains terms.now (Var x)) all.old.items all.new.items) }
+{
+    for term in terms {
+        add_term(term, all)?;
+    }
+    Ok(())
+}
+
+// Adds a term that is a variable.
+fn add_term(term: &Term, all: &mut Vec<VarId>) -> Result<(), NoMemory>
+    ensures { OnOk result (AddsVariables (λ x. term.now ≡ Var x) all.old.items all.new.items) }
+{
+    match term {
+        Term::Var(x) => add_new(*x, all),
+        Term::Const(_) => Ok(()),
+    }
+}
+
+// Adds the variables.
+fn add_each(xs: &[VarId], all: &mut Vec<VarId>) -> Result<(), NoMemory>
+    ensures { OnOk result (AddsVariables (Contains xs.now) all.old.items all.new.items) }
+{
+    for x in xs {
+        add_new(*x, all)?;
+    }
+    Ok(())
+}
+
+// Adds a variable where it is not there yet: a scope stays as short as the variables are few.
+fn add_new(x: VarId, all: &mut Vec<VarId>) -> Result<(), NoMemory>
+    ensures { OnOk result (AddsVariables (λ y. y ≡ x) all.old.items all.new.items) }
+{
+    if !is_in(x, all.as_slice()) {
+        all.push(x)?;
+    }
+    Ok(())
 }
 
 pub fn joined(alloc: Global, front: &[VarId], back: &[VarId]) -> Result<Vec<VarId>, NoMemory>

@@ -5,7 +5,7 @@ use Rattle.enf_data.specs.declared.terms.Term.TheVariants.{Var}
 use Rattle.enf_data.specs.declared.terms.VarId.{VarId}
 use Rattle.enf_data.specs.declared.values.Value.{Value}
 use Rattle.enf_data.specs.meaning.Valuations.{Valuation}
-use Rattle.std.specs.Prelude.{List, ◌≡◌, Contains, length, map, ℕ}
+use Rattle.std.specs.Prelude.{List, ◌≡◌, length, map, ℕ}
 use Rattle.enf_formula.specs.meaning.Satisfaction.{And, Atom, Formula}
 use Rattle.valuations.specs.machine.Bindings.{filled_from_row}
 use Rattle.valuations.specs.machine.Tables.{AgreesWithRow, Relation}

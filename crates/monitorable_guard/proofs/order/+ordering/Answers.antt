@@ -1,6 +1,6 @@
-use Rattle.monitorable_guard.proofs.Vocabulary.{◌≡◌, ◌+◌, ◌<◌, ◌↔◌, List, Option, None, Contains, length, sym, ap, subst, ◌∙◌, arith, rules, length-map, IfOk-weaker, VarId, tree_of, outermost, ◌^◌}
+use Rattle.monitorable_guard.proofs.Vocabulary.{◌≡◌, ◌+◌, ◌<◌, ◌↔◌, List, Option, None, Contains, length, sym, ap, subst, ◌∙◌, arith, rules, length-map, VarId, tree_of, outermost, ◌^◌}
 use Rattle.monitorable_guard.proofs.Vocabulary.{◌-◌, length-take-le, Formula, BoundOrFreeIn, formula_size, Not, And, Or, Implies, Exists, Forall, Safe, SafeBelow, ℕ, [], ◌∷◌, ◌++◌, get_or, take, here}
-use Rattle.monitorable_guard.proofs.Vocabulary.{Contains-append_left, Contains-append_right}
+use Rattle.monitorable_guard.proofs.Vocabulary.{Contains-append_left, Contains-append_right, ⊎_elim, inl, inr}
 use Rattle.monitorable_guard.proofs.OrderedLemmas.{room_left, room_right, conjuncts_room, conjuncts_large, some_by_size, last_parts, last_safe, conjunction_safe, ok_same, ok_so, size_some, last_size}
 use Rattle.monitorable_guard.proofs.OrderedSafety.{not_part, exists_part, forall_part, and_whole, and_below, or_parts, implies_parts, not_again, exists_again, forall_again, or_again, implies_again}
 use Rattle.monitorable_guard.proofs.ReorderingLemmas.{as_given, and_reordered}
@@ -46,20 +46,19 @@ ordered-ordered_turn-requires t c =
       ),
     )
 
-pub ordered-returns-in_ok-turn-in-And-clause-same : goal.ordered-returns-in_ok-turn-in-And-clause-same
-ordered-returns-in_ok-turn-in-And-clause-same t c =
+pub ordered-returns-in_ok-turned-in-And-clause-same : goal.ordered-returns-in_ok-turned-in-And-clause-same
+ordered-returns-in_ok-turned-in-And-clause-same t c =
     let f = tree_of c.args.formula.now in
     let same : (p : PlacedFormula) → Contains (placed_conjuncts c.as_slice.result.now) p ↔ Contains (conjuncts_from c.args.first f) p =
     λ p. subst (λ l. Contains (placed_conjuncts c.as_slice.result.now) p ↔ Contains l p) c.in_ok-all-in-And.ensures
     (subst (λ l. Contains (placed_conjuncts l) p ↔ Contains (placed_conjuncts c.in_ok-all-in-And.all.items) p) (sym c.as_slice.ensures.value) (c.in_ok-turn-in-And.ensures.same p)) in
-    IfOk-weaker c.ordered_turn.result _ _ (λ a told. whole_reordered c.args.first f (placed_conjuncts c.as_slice.result.now) (tree_of a.formula) a.numbers.items same told)
-    c.ordered_turn.ensures.same
+    let a = c.in_ok-turned-in-And.turned.asked in
+    whole_reordered c.args.first f (placed_conjuncts c.as_slice.result.now) (tree_of a.formula) a.numbers.items same c.in_ok-turned-in-And.ensures.same
 
-pub ordered-returns-in_ok-turn-in-And-clause-safe : goal.ordered-returns-in_ok-turn-in-And-clause-safe
-ordered-returns-in_ok-turn-in-And-clause-safe t c =
-    IfOk-weaker c.ordered_turn.result _ _ (λ a told above safe. and_below above c.in-And.field-0 (tree_of c.in-And.field-1.value) (tree_of c.in-And.field-2.value) (tree_of a.formula)
-    (Contains c.args.bound.now) told (subst (λ k. SafeBelow above (tree_of k) (Contains c.args.bound.now)) c.in-And.is safe))
-    c.ordered_turn.ensures.safe
+pub ordered-returns-in_ok-turned-in-And-clause-safe : goal.ordered-returns-in_ok-turned-in-And-clause-safe
+ordered-returns-in_ok-turned-in-And-clause-safe t c = λ above safe. and_below above c.in-And.field-0 (tree_of c.in-And.field-1.value) (tree_of c.in-And.field-2.value)
+    (tree_of c.in_ok-turned-in-And.turned.asked.formula) (Contains c.args.bound.now) c.in_ok-turned-in-And.ensures.safe
+    (subst (λ k. SafeBelow above (tree_of k) (Contains c.args.bound.now)) c.in-And.is safe)
 
 -- ---- two parts
 
@@ -331,15 +330,16 @@ ordered_turn-ordered-requires t c =
 pub ordered_turn-returns-then-before-eq0-clause-same : goal.ordered_turn-returns-then-before-eq0-clause-same
 ordered_turn-returns-then-before-eq0-clause-same t c =
     let turn = c.args.turn.now in
+    let a = c.in_ok-asked.asked in
     let lone = lone_turn turn (length turn - 1) c.index-turn-before.result (before_last turn c.requires.some) c.index-turn-before.is c.if-before-eq0.true in
-    IfOk-weaker c.ordered.result _ _ (λ a told. subst (λ ps. IsReordered ps (tree_of a.formula) a.numbers.items) (sym lone) told) c.ordered.ensures.same
+    subst (λ ps. IsReordered ps (tree_of a.formula) a.numbers.items) (sym lone) c.in_ok-asked.ensures.same
 
 pub ordered_turn-returns-then-before-eq0-clause-safe : goal.ordered_turn-returns-then-before-eq0-clause-safe
 ordered_turn-returns-then-before-eq0-clause-safe t c =
     let turn = c.args.turn.now in
     let lone = lone_turn turn (length turn - 1) c.index-turn-before.result (before_last turn c.requires.some) c.index-turn-before.is c.if-before-eq0.true in
     let safe = subst (AreSafeInTurn (Contains c.args.bound.now)) lone c.requires.safe in
-    IfOk-weaker c.ordered.result _ _ (λ a each. each None safe.0) c.ordered.ensures.safe
+    c.in_ok-asked.ensures.safe None safe.0
 
 pub ordered_turn-ordered_turn-requires : goal.ordered_turn-ordered_turn-requires
 ordered_turn-ordered_turn-requires t c =
@@ -365,9 +365,9 @@ ordered_turn-ordered-requires-2 t c =
     let before = length turn - 1 in
     let long = before_last turn c.requires.some in
     let sizes = parts_size turn before last long c.index-turn-before.is in
-    let a = tree_of c.in_ok-left.left.formula in
-    let listed = turn_scope bound c.as_slice.result.now c.in_ok-scope.scope.items a c.as_slice.ensures.value c.in_ok-scope.ensures in
-    let safe = last_safe bound c.as_slice.result.now (placed_conjuncts (take before turn)) (placed_conjunct last) a c.in_ok-left.left.numbers.items c.in_ok-left.ensures.same listed
+    let a = tree_of c.in_ok-left.left.asked.formula in
+    let listed = turn_scope bound c.as_slice.result.now c.in_ok-left.left.scope.items a c.as_slice.ensures.value c.in_ok-left.ensures.scope in
+    let safe = last_safe bound c.as_slice.result.now (placed_conjuncts (take before turn)) (placed_conjunct last) a c.in_ok-left.left.asked.numbers.items c.in_ok-left.ensures.same listed
     (parts_safe turn before last long c.index-turn-before.is bound c.requires.safe) in
     (omega (arith, sizes), (last_room turn before last long c.index-turn-before.is c.requires.room, (None, safe)))
 
@@ -377,14 +377,16 @@ ordered_turn-returns-clause-same t c =
     let last = c.index-turn-before.result in
     let before = length turn - 1 in
     let long = before_last turn c.requires.some in
-    let a = tree_of c.in_ok-left.left.formula in
+    let a = tree_of c.in_ok-left.left.asked.formula in
     let b = tree_of c.in_ok-right.right.formula in
-    let ns = c.in_ok-left.left.numbers.items in
+    let ns = c.in_ok-left.left.asked.numbers.items in
     let ms = c.in_ok-right.right.numbers.items in
     let place = c.place-place.result in
+    let made = c.in_ok-asked-2.asked in
     let joined = and_reordered (placed_conjuncts (take before turn)) (placed_conjunct last ∷ []) a b ns ms c.in_ok-left.ensures.same c.in_ok-right.ensures.same place in
-    ok_same (λ k. tree_of k.formula) (λ k. k.numbers.items) c.and.result (And place a b) (ns ++ ms) (placed_conjuncts turn)
-    (subst (λ ps. IsReordered ps (And place a b) (ns ++ ms)) (sym (turn_parts turn before last long c.index-turn-before.is)) joined) c.and.ensures.formula c.and.ensures.numbers
+    let told = subst (λ ps. IsReordered ps (And place a b) (ns ++ ms)) (sym (turn_parts turn before last long c.index-turn-before.is)) joined in
+    subst (λ g. IsReordered (placed_conjuncts turn) g made.numbers.items) (sym c.in_ok-asked-2.ensures.formula)
+    (subst (IsReordered (placed_conjuncts turn) (And place a b)) (sym c.in_ok-asked-2.ensures.numbers) told)
 
 pub ordered_turn-returns-clause-safe : goal.ordered_turn-returns-clause-safe
 ordered_turn-returns-clause-safe t c =
@@ -394,12 +396,31 @@ ordered_turn-returns-clause-safe t c =
     let last = c.index-turn-before.result in
     let before = length turn - 1 in
     let long = before_last turn c.requires.some in
-    let a = tree_of c.in_ok-left.left.formula in
+    let a = tree_of c.in_ok-left.left.asked.formula in
     let b = tree_of c.in_ok-right.right.formula in
     let front = placed_conjuncts (take before turn) in
-    let ns = c.in_ok-left.left.numbers.items in
-    let listed = turn_scope bound scope c.in_ok-scope.scope.items a c.as_slice.ensures.value c.in_ok-scope.ensures in
+    let ns = c.in_ok-left.left.asked.numbers.items in
+    let listed = turn_scope bound scope c.in_ok-left.left.scope.items a c.as_slice.ensures.value c.in_ok-left.ensures.scope in
     let safe = last_safe bound scope front (placed_conjunct last) a ns c.in_ok-left.ensures.same listed (parts_safe turn before last long c.index-turn-before.is bound c.requires.safe) in
-    ok_so (λ k. tree_of k.formula) (λ k. Safe k (Contains bound)) (And c.place-place.result a b)
+    subst (λ k. Safe k (Contains bound)) (sym c.in_ok-asked-2.ensures.formula)
     (conjunction_safe bound scope front (placed_conjunct last) a ns c.in_ok-left.ensures.same listed c.place-place.result b c.in_ok-left.ensures.safe (c.in_ok-right.ensures.safe None safe))
-    c.and.result c.and.ensures.formula
+
+-- the scope after a conjunction, by that after its first part
+scope_goes_on : (bound scope next : List VarId) (place : ℕ) (a b : Formula) → ((x : VarId) → Contains scope x ↔ BoundOrFreeIn (Contains bound) a x)
+    → ((x : VarId) → Contains next x ↔ BoundOrFreeIn (Contains scope) b x) → (x : VarId) → Contains next x ↔ BoundOrFreeIn (Contains bound) (And place a b) x
+scope_goes_on bound scope next place a b first more x = (
+  λ there. ⊎_elim (λ before. ⊎_elim (λ given. inl given) (λ free. inr (inl free)) ((first x).0 before)) (λ free. inr (inr free)) ((more x).0 there),
+  λ either. (more x).1 (⊎_elim (λ given. inl ((first x).1 (inl given))) (λ free. ⊎_elim (λ left. inl ((first x).1 (inr left))) (λ right. inr right) free) either),
+)
+
+pub ordered_turn-returns-clause-scope : goal.ordered_turn-returns-clause-scope
+ordered_turn-returns-clause-scope t c =
+    let bound = c.args.bound.now in
+    let left = c.in_ok-left.left in
+    let next = c.in_ok-scope-2.scope.items in
+    let a = tree_of left.asked.formula in
+    let b = tree_of c.in_ok-right.right.formula in
+    let more : (x : VarId) → Contains next x ↔ BoundOrFreeIn (Contains left.scope.items) b x =
+    subst (λ (s : List VarId). (x : VarId) → Contains next x ↔ BoundOrFreeIn (Contains s) b x) c.as_slice-2.ensures.value c.in_ok-scope-2.ensures in
+    subst (λ k. (x : VarId) → Contains next x ↔ BoundOrFreeIn (Contains bound) k x) (sym c.in_ok-asked-2.ensures.formula)
+    (scope_goes_on bound left.scope.items next c.place-place.result a b c.in_ok-left.ensures.scope more)
