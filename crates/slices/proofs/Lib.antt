@@ -1,0 +1,13 @@
+pub mod Vocabulary
+pub mod HindranceLaws
+pub mod HindranceLemmas
+pub mod KeyedEvents
+pub mod MergedSteps
+pub mod PolicyHindrances
+pub mod PolicyTruth
+pub mod SlicedLogs
+pub mod SlicePlaces
+pub mod SliceTruth
+pub mod SlicedTraces
+pub mod Unseen
+pub mod VerdictLemmas

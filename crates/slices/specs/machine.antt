@@ -1,0 +1,4 @@
+pub mod StoredKeys
+pub mod FirstHindrances
+pub mod Laws
+pub mod Cases

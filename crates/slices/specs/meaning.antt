@@ -1,0 +1,4 @@
+pub mod Slices
+pub mod SlicedLogs
+pub mod Verdicts
+pub mod SlicedRules
