@@ -235,8 +235,8 @@ fn in_turn<'f>(
     Ok(turn)
 }
 
-// The place of the one that is asked next: of those that can be, one of least reach. It looks first where the last one
-// was, since conjuncts of the same variables mostly stand together.
+// The place of the one that is asked next: of those that can be, one of least reach. After the first it looks where the
+// last one was, since conjuncts of the same variables mostly stand together.
 fn next_place(
     alloc: Global,
     left: &[Conjunct<'_>],

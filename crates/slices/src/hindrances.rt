@@ -21,7 +21,7 @@ pub enum Why {
     Rule,
 }
 
-/// A place of a policy, and why it is in the way.
+/// A place of a policy, and why it is in the way; where several reasons stand at one place, it is one of these.
 #[derive(Clone, Copy, Debug, PartialEq, Eq)]
 pub struct Hindrance {
     pub place: Place,
