@@ -3,11 +3,11 @@ use Rattle.choice_step.proofs.Vocabulary.{Action, AllByRecursion, AreThoseWith, 
 use Rattle.choice_step.proofs.Vocabulary.{IsNowOf, IsPlain, IsStillWanted, IsWanted, IsWantedOf, List, Literal, Missing, None, Now, Option, Plan, Root, Situation, SituationFinds, Some}
 use Rattle.choice_step.proofs.Vocabulary.{StaleNowStands, Step, Waiting, [], action_at, action_at_root, ap, arith, here, inl, is_forced, last_position, later, length, length-append}
 use Rattle.choice_step.proofs.Vocabulary.{map, no_values, nodes, refl, roots_from, same_Some, situation_plans, slice_get, step_moment, subst, sym, there_from_get, time_now}
-use Rattle.choice_step.proofs.Vocabulary.{trace_with_step, ℕ, ⊎_elim, ◌∙◌, ◌∷◌, ◌≡◌, ◌≤◌, ◌⊎◌}
+use Rattle.choice_step.proofs.Vocabulary.{trace_with_step, ℕ, ⊎_elim, ◌∙◌, ◌∷◌, ◌≡◌, ◌≤◌}
 use Rattle.pending.proofs.AskingLaws.{asking_passes}
 use Rattle.pending.specs.machine.AskedEntries.{AskingList, IsFirstAhead, PassesFirst}
 use Rattle.pending.specs.machine.PendingEntries.{all_listed}
-use Rattle.choice_step.specs.machine.StillToAsk.{AreWanted, FirstRootsAreMet, InstancesAreMet, IsAskingIn, IsFoundIn, IsMissedAtRoot, IsNowOfSituation, RootIsMet, WillHold}
+use Rattle.choice_step.specs.machine.StillToAsk.{AreWanted, FirstRootsAreMet, InstancesAreMet, IsAskingIn, IsFoundIn, IsLeftOf, IsMissedAtRoot, IsNowOfSituation, RootIsMet, WillHold}
 use Rattle.choice_step.specs.machine.Turns.{IsMetAfter}
 use Rattle.choice_step.proofs.FirstActionLemmas.{one_more_root, Met, for_trace, found_behind, found_first, literal_root, misses_root, misses_waiting, no_root, waits, wanted_root, wanted_waiting}
 use Rattle.choice_step.proofs.LoopActionLemmas.{changes_now, found_root, wanted_from, wanted_now}
@@ -87,6 +87,16 @@ module _ (situation : Situation) (given events : List Event) (rule : ℕ) where
           missing,
         );
   }
+
+  -- where the last that was left is not wanted, the root misses nothing
+  pub last_left : (l : Literal) → (Wanted l → ⊥) → (plan : Plan) → slice_get (situation_plans situation) rule ≡ Some plan → WillHold situation events (IsLeftOf plan (l ∷ []))
+      → RootIsMet situation events rule
+  last_left l not plan there lefts other at trace stands long later =
+      let S : List Step = trace_with_step trace situation.time events in
+      let (left, those, missing) = lefts trace stands long later in
+      let none : left ≡ [] = those_behind (IsStillWanted S) l [] left
+      (λ still. not (changes_now (situation_plans situation) situation.pending.now.instances situation.past.now situation.inserted situation.time situation.position trace events l still)) those in
+      subst (λ p. Missing S p no_values []) (same_Some plan other (sym there ∙ at)) (subst (Missing S plan no_values) none missing)
 
   -- the first that is wanted is for the first that misses something
   pub found_missed : (l : Literal) (literals : List Literal) (action : Action) → Wanted l → IsMissedAtRoot situation given events rule (l ∷ literals)

@@ -1,6 +1,7 @@
 pub mod Vocabulary
 pub mod ActedEventLaws
 pub mod ActionChainLemmas
+pub mod AskedAgainLemmas
 pub mod AskedLeafLemmas
 pub mod CaseLemmas
 pub mod ChangingLemmas
@@ -20,6 +21,7 @@ pub mod LoopLemmas
 pub mod MovedLemmas
 pub mod NextLemmas
 pub mod OneActionLemmas
+pub mod OwnEventLemmas
 pub mod PossibleEventLemmas
 pub mod SleeperLemmas
 pub mod RootOrderLemmas

@@ -4,7 +4,7 @@ use Rattle.choice_step.proofs.Vocabulary.{Contains-append_right, Contains-insert
 use Rattle.choice_step.proofs.Vocabulary.{Instance, IsActionFor, IsCaused, IsLiteralBehind, IsStillWanted, IsWantedFrom, List, Literal, LiteralKind, MissesNothing, Missing}
 use Rattle.choice_step.proofs.Vocabulary.{NameId, NothingClashes, Past, Plan, Root, Some, Step, Waiting, WillFind, [], action_at, action_at_root, all_asked, ap, arith}
 use Rattle.choice_step.proofs.Vocabulary.{at_each, first_or_later, here, inl, inr, last_position, later, length-append, map, no_values, refl, roots_from, slice_get, subst}
-use Rattle.choice_step.proofs.Vocabulary.{sym, take, time_now, trace_with_step, ℕ, ⊎_elim, ◌++◌, ◌+◌, ◌↔◌, ◌∙◌, ◌∷◌, ◌≡◌}
+use Rattle.choice_step.proofs.Vocabulary.{sym, take, time_now, trace_with_step, ℕ, ⊎_elim, ◌++◌, ◌↔◌, ◌∙◌, ◌∷◌, ◌≡◌}
 use Rattle.choice_step.proofs.Vocabulary.{HasNoRepeats, HasNoRepeats-middle, Contains-push}
 use Rattle.choice_step.proofs.ActionChainLemmas.{not_behind}
 use Rattle.choice_step.proofs.UniquenessLemmas.{last_step}

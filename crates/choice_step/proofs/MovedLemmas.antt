@@ -13,7 +13,7 @@ use Rattle.pending.proofs.AskingLaws.{asking_roused, asking_turns, sleeps_of}
 use Rattle.pending.specs.machine.AskedEntries.{AskingList, AsksMoved, IsAskingAt}
 use Rattle.pending.specs.machine.PendingEntries.{all_listed}
 use Rattle.choice_step.specs.declared.unasked.Unasked.{Unasked}
-use Rattle.choice_step.specs.machine.StillToAsk.{AreToldBut, AsksMovedAgain, FirstRootsAreMet, InstancesAreMet, InstancesAreMetBut, IsAskingIn, IsMissedAtRoot, PassesUnmoved, RootLeavesRest}
+use Rattle.choice_step.specs.machine.StillToAsk.{AreToldBut, AsksMovedAgain, FirstRootsAreMet, InstancesAreMet, InstancesAreMetBut, IsAskingIn, IsLeftOf, IsMissedAtRoot, PassesUnmoved, RootLeavesRest}
 use Rattle.choice_step.specs.machine.StillToAsk.{IsUnaskedAt, RootsAreMetBut, WillHold}
 use Rattle.choice_step.specs.machine.Turns.{RousesEach, caused_first, events_caused}
 use Rattle.choice_step.proofs.Vocabulary.{Contains-append_right, append-nil, append_assoc, length-append}
@@ -148,7 +148,26 @@ module _ (met : UnreadStaysMet) (instances_met : UnreadInstanceStaysMet) (rest :
           met guards k event.name (before_it trace) (behind_it trace) plan no_values (differ trace) unmoved
           (AllByRecursion-contains (CanAskRoot guards) plans plan can.step.all.roots (there_from_get plans rule plan at)).0 was
 
-  -- what a root misses is the rest of what it missed, where nobody before it misses anything
+  -- what a root misses is the rest of what it missed
+  pub left_rest : HasActionRole plans k event.name → (given : List Event) (rule : ℕ) (literals : List Literal) → RootLeavesRest situation k event.name rule
+      → (is : IsMissedAtRoot situation given events rule literals) → WillHold situation after (IsLeftOf is.plan literals)
+  left_rest role given rule literals leaves is trace stands long later =
+      let (left, those, missing) = is.left trace stands long later in
+      let (now_left, now_those, now_missing) =
+      rest k event.name (before_it trace) (behind_it trace) is.plan no_values left (differ trace) (leaves is.plan is.there) is.plain missing in (
+        now_left,
+        those_again (IsStillWanted (before_it trace)) (IsStillWanted (behind_it trace)) literals left now_left
+            (λ l there wanted. let leaf = is.are l there in
+            wanted_now plans situation.pending.now.instances situation.past.now situation.inserted situation.time situation.position trace events l
+            (still k l.kind event l.event events after applies
+            (λ not same. one_way plans can.step.roles k l.kind event.name role
+            (subst (HasActionRole plans l.kind) same (role_of_leaf plans leaf.leaf l.kind l.leaf l.event leaf.there leaf.is)) not)
+            (changes_now plans situation.pending.now.instances situation.past.now situation.inserted situation.time situation.position trace after l wanted)))
+            those now_those,
+        now_missing,
+      )
+
+  -- it comes next, where nobody before it misses anything
   pub missed_rest : HasActionRole plans k event.name → (given : List Event) (rule : ℕ) (literals : List Literal) → RootLeavesRest situation k event.name rule
       → WillHold situation after (InstancesAreMet situation) → WillHold situation after (FirstRootsAreMet situation rule)
       → IsMissedAtRoot situation given events rule literals → IsMissedAtRoot situation given after rule literals
@@ -159,21 +178,7 @@ module _ (met : UnreadStaysMet) (instances_met : UnreadInstanceStaysMet) (rest :
     are = is.are;
     instances = instances;
     roots = roots;
-    left = λ trace stands long later.
-        let (left, those, missing) = is.left trace stands long later in
-        let (now_left, now_those, now_missing) =
-        rest k event.name (before_it trace) (behind_it trace) is.plan no_values left (differ trace) (leaves is.plan is.there) is.plain missing in (
-          now_left,
-          those_again (IsStillWanted (before_it trace)) (IsStillWanted (behind_it trace)) literals left now_left
-              (λ l there wanted. let leaf = is.are l there in
-              wanted_now plans situation.pending.now.instances situation.past.now situation.inserted situation.time situation.position trace events l
-              (still k l.kind event l.event events after applies
-              (λ not same. one_way plans can.step.roles k l.kind event.name role
-              (subst (HasActionRole plans l.kind) same (role_of_leaf plans leaf.leaf l.kind l.leaf l.event leaf.there leaf.is)) not)
-              (changes_now plans situation.pending.now.instances situation.past.now situation.inserted situation.time situation.position trace after l wanted)))
-              those now_those,
-          now_missing,
-        );
+    left = left_rest role given rule literals leaves is;
   }
 
   -- ---- no plan is moved by an action on a name that no guard looks for, and each misses the rest

@@ -1,12 +1,20 @@
 -- What is known after one action for a literal that a root misses.
-use Rattle.choice_step.proofs.Vocabulary.{◌≡◌, ◌⊎◌, ℕ, ◌≤◌, List, ◌∷◌, arith, drop, sym, subst, ⊎_elim, Event, HasNoRepeats, Literal, Situation}
+use Rattle.choice_step.proofs.Vocabulary.{◌≡◌, ℕ, ◌≤◌, List, [], ◌∷◌, arith, drop, sym, subst, ⊎_elim, Event, HasNoRepeats, Literal, Situation}
 use Rattle.choice_step.proofs.Vocabulary.{CanDecideSituation, situation_plans, Applies, HasActionRole, UnreadInstanceStaysMet, UnreadLeavesRest, UnreadStaysMet, Action, trace_with_step}
 use Rattle.choice_step.specs.declared.unasked.Unasked.{Unasked}
-use Rattle.choice_step.specs.machine.StillToAsk.{AreToldBut, InstancesAreMet, IsMissedAtRoot, IsUnaskedAt, LeavesOthers, PassesUnmoved, RootsAreMetBut, WillHold}
-use Rattle.choice_step.proofs.FoundLemmas.{missed_behind}
+use Rattle.choice_step.specs.machine.StillToAsk.{AreToldBut, InstancesAreMet, IsMissedAtRoot, IsUnaskedAt, LeavesOthers, PassesUnmoved, RootIsMet, RootLeavesRest, RootsAreMetBut, WillHold}
+use Rattle.choice_step.proofs.FoundLemmas.{last_left, missed_behind}
 use Rattle.choice_step.proofs.LoopActionLemmas.{gone}
-use Rattle.choice_step.proofs.MovedLemmas.{all_leave, missed_rest, passes_on, spared_first, spared_instances}
+use Rattle.choice_step.proofs.MovedLemmas.{all_leave, left_rest, missed_rest, passes_on, spared_first, spared_instances}
 use Rattle.choice_step.proofs.UnaskedLemmas.{none_waits, roots_met}
+
+-- where that was all which the root misses, it misses nothing after it
+pub met_alone : UnreadStaysMet → UnreadInstanceStaysMet → UnreadLeavesRest → (situation : Situation) → CanDecideSituation situation → (rule : ℕ) (literal : Literal)
+    → HasActionRole (situation_plans situation) literal.kind literal.event.name → (events after : List Event) → HasNoRepeats events → Applies literal.kind literal.event events after
+    → RootLeavesRest situation literal.kind literal.event.name rule → (given : List Event) → IsMissedAtRoot situation given events rule (literal ∷ []) → RootIsMet situation after rule
+met_alone met instances_met rest situation can rule literal role events after distinct applies leaves given is =
+    last_left situation given after rule literal (gone literal.kind literal.event events after distinct applies) is.plan is.there
+    (left_rest met instances_met rest situation can literal.kind literal.event events after applies role given rule (literal ∷ []) leaves is)
 
 module _ (met : UnreadStaysMet) (instances_met : UnreadInstanceStaysMet) (rest : UnreadLeavesRest) (situation : Situation) (can : CanDecideSituation situation)
     (rule : ℕ) (literal : Literal) (role : HasActionRole (situation_plans situation) literal.kind literal.event.name) (events after : List Event) (distinct : HasNoRepeats events)

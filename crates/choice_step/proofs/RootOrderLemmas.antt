@@ -1,5 +1,5 @@
 -- Rules that are to be asked again, of which one goes.
-use Rattle.choice_step.proofs.Vocabulary.{◌≡◌, ◌⊎◌, ℕ, ◌+◌, ◌-◌, ◌<◌, ◌≤◌, Bool, true, false, List, [], ◌∷◌, Contains, arith, cond, inl, inr, ⊎_elim, length, refl, sym, subst, eqb-true, first_or_later, later}
+use Rattle.choice_step.proofs.Vocabulary.{◌≡◌, ◌⊎◌, ℕ, ◌+◌, ◌<◌, ◌≤◌, Bool, true, false, List, [], ◌∷◌, Contains, arith, cond, inl, inr, ⊎_elim, length, refl, sym, subst, eqb-true, first_or_later, later}
 use Rattle.choice_step.proofs.Vocabulary.{none_in_nil}
 use Rattle.std.specs.List.{filter}
 use Rattle.std.specs.Prelude.{nat_eq, not}

@@ -1,9 +1,9 @@
 -- A rule misses nothing where the step has no event of a name that wakes it.
-use Rattle.choice_step.proofs.Vocabulary.{◌≡◌, ℕ, zero, suc, ◌<◌, List, [], ◌∷◌, Option, None, Some, ◌++◌, All, Contains, length, map, get_or, refl, sym, subst, ap, ⊎_elim, inl, inr, ◌⊎◌, arith, Bor}
+use Rattle.choice_step.proofs.Vocabulary.{◌≡◌, ℕ, zero, suc, ◌<◌, List, [], ◌∷◌, Option, None, Some, ◌++◌, Contains, length, map, get_or, refl, sym, subst, ap, ⊎_elim, inl, inr, ◌⊎◌, arith, Bor}
 use Rattle.choice_step.proofs.Vocabulary.{option_map, option_or, slice_get, All-contains, Contains-append_cases, Contains-append_left, here, later, Contains-append_right, none-some, same_Some}
-use Rattle.choice_step.proofs.Vocabulary.{step_at, none_in_nil, flat_map, Contains-flat_map, Valuation, Event, NameId, Step, VarId, Formula, And, Atom, Exists, Or, HaveSameEvents, names_in_formula}
+use Rattle.choice_step.proofs.Vocabulary.{step_at, none_in_nil, Contains-flat_map, Valuation, Event, NameId, Step, VarId, Formula, And, Atom, Exists, Or, HaveSameEvents, names_in_formula}
 use Rattle.choice_step.proofs.Vocabulary.{shown_events, Plan, CausePlan, SuppressPlan, Both, Either, TestOr, Guarded, EventuallyPlan, AlwaysPlan, UntilPlan, NextPlan, nodes, suppressed_at}
-use Rattle.choice_step.proofs.Vocabulary.{suppressed_below, IsSuppressed, of_each, triggers, waking_names, looks_at, IsGuard, guard_formula, guard_names, PlacedGuard, CanAskIn, CanAskPlan}
+use Rattle.choice_step.proofs.Vocabulary.{suppressed_below, of_each, triggers, waking_names, looks_at, IsGuard, guard_formula, guard_names, PlacedGuard, CanAskIn, CanAskPlan}
 use Rattle.choice_step.proofs.Vocabulary.{placed_guard, Missing, AreMetBy, UnwokenMissesNothing, last_position, GainsNoSuppressed, HasNoneOf, IsAway}
 
 -- ---- the names that wake a plan are among those of its guards, or the plan suppresses them

@@ -1,5 +1,5 @@
 -- What the loop keeps while it goes on with the order and the tables with which a round began.
-use Rattle.choice_step.proofs.Vocabulary.{◌≡◌, ◌∙◌, ◌⊎◌, ℕ, ◌+◌, ◌<◌, ◌≤◌, Bool, List, [], ◌∷◌, ◌++◌, None, length, Contains, arith, sym, subst, ap, refl, ⊎_elim, append-nil, append_assoc}
+use Rattle.choice_step.proofs.Vocabulary.{◌≡◌, ◌∙◌, ℕ, ◌+◌, ◌<◌, ◌≤◌, Bool, List, [], ◌∷◌, ◌++◌, None, length, Contains, arith, sym, subst, ap, refl, ⊎_elim, append-nil, append_assoc}
 use Rattle.choice_step.proofs.Vocabulary.{length-append, Contains-append_left, HasNoRepeats, Event, NameId, HaveSameEvents, Past, guard_names, NothingClashes, Plan, Action, Instance, GoesFrom}
 use Rattle.choice_step.proofs.Vocabulary.{CanDecideSituation, SituationLeads, Situation, situation_plans, Applies, GainsNoSuppressed, none_in_nil}
 use Rattle.obligations.specs.machine.FreshGuards.{HaveSameFreshEvents}

@@ -1,15 +1,15 @@
 -- Who misses nothing, where it is known who is still to be asked.
-use Rattle.choice_step.proofs.Vocabulary.{◌≡◌, ◌∙◌, ◌⊎◌, ℕ, zero, suc, ◌+◌, ◌-◌, ◌<◌, ◌≤◌, Bool, List, [], ◌∷◌, ◌++◌, None, Some, map, take, drop, Contains, arith, refl, sym, ap, subst}
+use Rattle.choice_step.proofs.Vocabulary.{◌≡◌, ◌∙◌, ℕ, zero, suc, ◌+◌, ◌<◌, ◌≤◌, Bool, List, [], ◌∷◌, ◌++◌, None, Some, map, take, drop, Contains, arith, refl, sym, ap, subst}
 use Rattle.choice_step.proofs.Vocabulary.{inl, inr, ⊎_elim, slice_get, AllByRecursion, AllByRecursion-contains, first_or_later, here, later, none-some, none_in_nil, same_Some, Event, Step}
 use Rattle.choice_step.proofs.Vocabulary.{Plan, no_values, guard_names, GuardsWillHold, placed_guard, Missing, MissingOfExists, StaleNowStands, IsNowOf, Now}
 use Rattle.choice_step.proofs.Vocabulary.{Action, Instance, Literal, CanAskOf, CanAskRoots, askable, guards_now, step_moment, SleepsNow, Listed, IsWaitOf, SleepersMissNothing, EarlyMissNothing}
 use Rattle.choice_step.proofs.Vocabulary.{Situation, CanDecideSituation, situation_plans, IsFirstMissing, MissesNothing, Waiting, roots_from}
 use Rattle.choice_step.proofs.Vocabulary.{trace_with_step}
 use Rattle.sleepers.specs.declared.entries.Entry.{Entry}
-use Rattle.obligations.specs.machine.AskingLaws.{FreshInstanceCanBeAsked}
+use Rattle.obligations.specs.machine.AskingLaws.{FreshInstanceCanBeAsked, FreshPlanCanBeAsked}
 use Rattle.obligations.specs.machine.FreshGuards.{HaveSameFreshEvents}
 use Rattle.obligations.specs.machine.MovedPlans.{IgnoresAllOf}
-use Rattle.choice_step.proofs.Vocabulary.{Candidate, HasNoneOf, Option, PlacedGuard, UnwokenMissesNothing}
+use Rattle.choice_step.proofs.Vocabulary.{CanAskPlan, CanAskRoot, Candidate, GainsNoSuppressed, HasNoneOf, Option, PlacedGuard, UnwokenMissesNothing, there_from_get}
 use Rattle.choice_step.proofs.UniquenessLemmas.{last_step}
 use Rattle.choice_step.proofs.WokenRuleLemmas.{all_asleep}
 use Rattle.pending.proofs.EntryLemmas.{listed_items}
@@ -18,7 +18,7 @@ use Rattle.pending.specs.machine.AskedEntries.{AskingList, BeginsAsking, IsFirst
 use Rattle.pending.specs.machine.PendingEntries.{all_listed, items_of, listed_of}
 use Rattle.pending.specs.machine.PendingLists.{listed_instances}
 use Rattle.choice_step.specs.declared.unasked.Unasked.{Unasked}
-use Rattle.choice_step.specs.machine.StillToAsk.{AreToldBut, IsUnasked, InstancesAreMet, InstancesAreMetBut, RootIsMet, IsUnaskedAt, IsAskingIn, FirstRootsAreMet, IsNowOfSituation, RootsAreMetBut, WillHold}
+use Rattle.choice_step.specs.machine.StillToAsk.{AreToldBut, IsUnasked, InstancesAreMet, InstancesAreMetBut, RootIsMet, IsUnaskedAt, IsAskingIn, FirstRootsAreMet, IsNowOfSituation, RootIgnoresAll, RootsAreMetBut, WillHold}
 use Rattle.choice_step.specs.machine.RootOrder.{IsFirstRoot, PassesRoot}
 use Rattle.choice_step.proofs.FirstActionLemmas.{Met, MissesFirst, one_more_root}
 use Rattle.choice_step.proofs.SleeperLemmas.{sleeper_met}
@@ -49,6 +49,15 @@ pub roots_asked : (situation : Situation) (now : Now) → CanDecideSituation sit
 roots_asked situation now can is fresh =
     subst (λ stale. CanAskRoots (map (askable stale) now.tables.now.guards) (situation_plans situation)) (sym fresh)
     (subst (λ gs. CanAskRoots (map placed_guard gs) (situation_plans situation)) (sym is.are.2.0) can.step.all.roots)
+
+-- so can the root of a rule
+pub root_asked : FreshPlanCanBeAsked → (situation : Situation) (now : Now) → CanDecideSituation situation → IsNowOfSituation situation now → (rule : ℕ) (plan : Plan)
+    → slice_get (situation_plans situation) rule ≡ Some plan → RootIgnoresAll situation rule now.stale.now → CanAskPlan (guards_now now) plan no_values
+root_asked fresh situation now can is rule plan at ignores =
+    fresh now plan no_values (ignores plan at)
+    (subst (λ gs. CanAskPlan (map placed_guard gs) plan no_values) (sym is.are.2.0)
+    (AllByRecursion-contains (CanAskRoot (map placed_guard situation.past.now.guards)) (situation_plans situation) plan can.step.all.roots
+    (there_from_get (situation_plans situation) rule plan at)).0)
 
 -- ---- entries and their instances
 
@@ -251,13 +260,14 @@ first_met situation events told unasked first is kept trace stands long later =
 
 -- and none up to the next that the step can wake
 pub sleep_on : UnwokenMissesNothing → StaleNowStands → (situation : Situation) (now : Now) → CanDecideSituation situation → IsNowOfSituation situation now → now.stale.now ≡ []
+    → GainsNoSuppressed (situation_plans situation) now.ordered.now now.events.now
     → (from next : ℕ) → from ≤ next → ((rule : ℕ) → from ≤ rule → rule < next → HasNoneOf (slice_get situation.wakes.now rule) now.ordered.now)
     → WillHold situation now.events.now (FirstRootsAreMet situation from) → WillHold situation now.events.now (FirstRootsAreMet situation next)
-sleep_on unwoken stand situation now can is fresh from next up sleep met trace stands long later =
+sleep_on unwoken stand situation now can is fresh fewer from next up sleep met trace stands long later =
     let S : List Step = trace_with_step trace situation.time now.events.now in
     all_asleep (situation_plans situation) situation.inserted S situation.past.now.guards now.ordered.now now.events.now unwoken can.step.all.roots
     (ap (λ (s : Step). s.events) (last_step trace (record { time = situation.time; events = now.events.now })))
-    (λ event named. is.same event named (λ there. none_in_nil event.name (subst (λ l. Contains l event.name) fresh there))) is.fewer
+    (λ event named. is.same event named (λ there. none_in_nil event.name (subst (λ l. Contains l event.name) fresh there))) fewer
     from next up (λ r low high. subst (λ l. HasNoneOf (slice_get l r) now.ordered.now) can.wakes (sleep r low high)) (met trace stands long later)
 
 -- once those are passed

@@ -1,5 +1,5 @@
 -- Those that an action does not move pass, one after another.
-use Rattle.choice_step.proofs.Vocabulary.{◌≡◌, ◌∙◌, ◌⊎◌, ◌<◌, List, ◌∷◌, Contains, ap, arith, drop, inl, inr, length, refl, sym, subst, ⊎_elim, first_or_later, Instance, LiteralKind, NameId, Plan}
+use Rattle.choice_step.proofs.Vocabulary.{◌≡◌, ◌∙◌, ◌<◌, List, ◌∷◌, Contains, ap, arith, drop, inl, inr, length, refl, sym, subst, ⊎_elim, first_or_later, Instance, LiteralKind, NameId, Plan}
 use Rattle.sleepers.specs.declared.entries.Entry.{Entry}
 use Rattle.obligations.specs.machine.MovedPlans.{IsUnmovedOf}
 use Rattle.pending.specs.machine.AskedEntries.{AskingList, IsFirstAhead, PassesFirst}

@@ -11,6 +11,7 @@ pub mod Laws
 pub mod WantedActions
 pub mod LoopActions
 pub mod Situations
+pub mod OwnEvents
 pub mod StillToAsk
 pub mod StepChoices
 pub mod Turns

@@ -3,7 +3,7 @@ ghost use Rattle.std.specs.Prelude.{◌≡◌, ◌<◌, ◌≤◌, ◌++◌, ◌
 ghost use Rattle.std.specs.Prelude.{drop, false, length};
 ghost use Rattle.choice_step.specs.machine.Situations.{CanDecideSituation, SituationLeads, situation_plans};
 ghost use Rattle.choice_step.specs.machine.StillToAsk.{AreWanted, AsksMovedAgain, IsMissedAtRoot, IsUnaskedAt};
-ghost use Rattle.choice_step.specs.machine.StillToAsk.{LeavesOthers, PassesUnmoved, RootLeavesRest, Spoils};
+ghost use Rattle.choice_step.specs.machine.StillToAsk.{LeavesOthers, PassesUnmoved, RootIsMet, RootLeavesRest, Spoils};
 ghost use Rattle.choice_step.specs.machine.Turns.{GoesStale, IsMetAfter, RousesEach, caused_first, events_caused};
 ghost use Rattle.choice_step.specs.machine.WantedActions.{IsWantedFrom};
 ghost use Rattle.choice_step.specs.meaning.ActedSteps.{Applies};
@@ -69,7 +69,7 @@ pub fn act(
 }
 
 // Does the actions for what a root misses, one after another, as long as it misses the rest of that and nobody before
-// it misses anything.
+// it misses anything. A root that missed one action alone counts as met then, though others are asked before it.
 pub fn act_for(
     alloc: Global,
     situation: &Situation<'_>,
@@ -96,9 +96,18 @@ pub fn act_for(
 {
     let Missed { rule, mut literals } = missed;
     let first = literals.remove(0);
+    let kind = first.kind;
+    let name = first.event.name;
     if !act_one(
         alloc, situation, rule, first, events, unasked, stale, actions,
     )? {
+        if !literals.is_empty() {
+            return Ok(());
+        }
+        if !leaves_root(situation, rule, kind, name) {
+            return Ok(());
+        }
+        unasked.met(rule);
         return Ok(());
     }
     let rest = literals.as_slice();
@@ -187,6 +196,9 @@ fn act_one(
         × ((given : List AnyEvent) (rest : List AnyLiteral)
         → IsMissedAtRoot situation.now given events.old rule (literal ∷ rest)
         → IsMissedAtRoot situation.now given events.new rule rest)) }
+    ensures last { OnOk result ((given : List AnyEvent)
+        → IsMissedAtRoot situation.now given events.old rule (literal ∷ [])
+        → RootLeavesRest situation.now literal.kind literal.event.name rule → RootIsMet situation.now events.new rule) }
     ensures spoilt { IfOk result (λ on. on ≡ false → 0 < length stale.new.items) }
 {
     unread_stays_met();

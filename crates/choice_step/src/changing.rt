@@ -104,7 +104,7 @@ impl Changing {
 
 // Puts an event last in a set, if it is not there.
 #[inline(always)]
-fn put_last(seed: Seed, event: Event, set: &mut EventSet) -> Result<(), NoMemory>
+pub fn put_last(seed: Seed, event: Event, set: &mut EventSet) -> Result<(), NoMemory>
     ensures put { OnOk result ((new : Bool) × InsertsItem event set.old new set.new) }
     ensures distinct { HasNoRepeats set.new }
 {

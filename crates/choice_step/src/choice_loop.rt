@@ -17,8 +17,9 @@ ghost use Rattle.plan_terms.specs.machine.WakingNames.{waking_names};
 
 use crate::actions::Actions;
 use crate::apply_actions::{act, act_for};
+use crate::asked_again::{act_alone, find_again};
 use crate::changing::Changing;
-use crate::first_missing::{Missed, Next, find};
+use crate::first_missing::{Missed, Next, find, is_looked_for};
 use crate::laws::actions_are_justified;
 use crate::rule_triggers::Wakes;
 use crate::situation::Situation;
@@ -123,6 +124,19 @@ pub fn choose_with(
     let mut events = events;
     let mut actions = Actions::new(alloc);
     loop {
+        let again = find_again(alloc, &situation, &events, &mut unasked)?;
+        if let Some(missed) = again {
+            let acted = act_alone(
+                alloc,
+                &situation,
+                missed,
+                events,
+                &mut unasked,
+                &mut actions,
+            )?;
+            events = acted;
+            continue;
+        }
         let Round {
             events: after,
             tables,
@@ -194,14 +208,6 @@ fn go_round(
             tables,
             ended: true,
         }),
-    }
-}
-
-// Whether a guard looks for the name of the first event that is missed.
-fn is_looked_for(situation: &Situation<'_>, missed: &Missed) -> bool {
-    match missed.literals.first() {
-        Some(literal) => situation.past.looks_for(literal.event.name),
-        None => false,
     }
 }
 

@@ -3,10 +3,11 @@ ghost use Rattle.std.specs.Prelude.{◌≡◌, ◌↔◌, ◌<◌, ◌≤◌, �
 ghost use Rattle.std.specs.Prelude.{slice_get};
 ghost use Rattle.std.specs.List.{AllByRecursion};
 ghost use Rattle.choice_step.specs.meaning.Choice.{Waiting, action_at, action_at_root};
+ghost use Rattle.choice_step.specs.machine.RuleTriggers.{GainsNoSuppressed};
 ghost use Rattle.choice_step.specs.machine.Situations.{CanDecideSituation, situation_plans};
 ghost use Rattle.choice_step.specs.machine.StillToAsk.{FirstRootsAreMet, InstancesAreMet, IsAskingIn, IsDecidedAt};
 ghost use Rattle.choice_step.specs.machine.StillToAsk.{IsFirstNext, IsNextAt, IsNextOf, IsNowOfSituation, IsOfInstance};
-ghost use Rattle.choice_step.specs.machine.StillToAsk.{IsUnasked, RootIsMet, WillHold};
+ghost use Rattle.choice_step.specs.machine.StillToAsk.{IsUnasked, RootIgnoresAll, RootIsMet, WillHold};
 ghost use Rattle.enf_data.specs.declared.events.Event.{Event as AnyEvent};
 ghost use Rattle.obligations.specs.machine.Leaves.{ChangesEvents};
 ghost use Rattle.obligations.specs.machine.PlanClasses.{IsPlain};
@@ -58,6 +59,7 @@ pub fn find(
 ) -> Result<Next, NoMemory>
     requires can { CanDecideSituation situation.now }
     requires now { IsNowOfSituation situation.now now.now }
+    requires fewer { GainsNoSuppressed (situation_plans situation.now) now.now.ordered.now now.now.events.now }
     requires kept { (told : List AnyEvent) × IsUnasked situation.now now.now.events.now told unasked.old }
     ensures kept { OnOk result ((told : List AnyEvent) → IsUnasked situation.now now.now.events.now told unasked.old
         → IsUnasked situation.now now.now.events.now told unasked.new) }
@@ -120,6 +122,7 @@ fn find_root(
 ) -> Result<Next, NoMemory>
     requires can { CanDecideSituation situation.now }
     requires now { IsNowOfSituation situation.now now.now }
+    requires fewer { GainsNoSuppressed (situation_plans situation.now) now.now.ordered.now now.now.events.now }
     requires fresh { now.now.stale.now ≡ [] }
     requires kept { (told : List AnyEvent) × IsUnasked situation.now now.now.events.now told unasked.old }
     requires none { unasked.old.asking.ahead ≡ [] }
@@ -148,6 +151,7 @@ fn find_root(
 fn next_root(situation: &Situation<'_>, now: &Now<'_>, unasked: &mut Unasked<'_>) -> usize
     requires can { CanDecideSituation situation.now }
     requires now { IsNowOfSituation situation.now now.now }
+    requires fewer { GainsNoSuppressed (situation_plans situation.now) now.now.ordered.now now.now.events.now }
     requires fresh { now.now.stale.now ≡ [] }
     requires kept { (told : List AnyEvent) × IsUnasked situation.now now.now.events.now told unasked.old }
     ensures kept { (told : List AnyEvent) → IsUnasked situation.now now.now.events.now told unasked.old
@@ -205,7 +209,8 @@ fn ask_root(
 }
 
 // The same, where its plan has no choices.
-fn ask_plain(
+#[inline(always)]
+pub fn ask_plain(
     alloc: Global,
     situation: &Situation<'_>,
     now: &Now<'_>,
@@ -214,7 +219,7 @@ fn ask_plain(
 ) -> Result<Next, NoMemory>
     requires can { CanDecideSituation situation.now }
     requires now { IsNowOfSituation situation.now now.now }
-    requires fresh { now.now.stale.now ≡ [] }
+    requires ignores { RootIgnoresAll situation.now rule now.now.stale.now }
     requires waiting { WillHold situation.now now.now.events.now (InstancesAreMet situation.now) }
     requires before { WillHold situation.now now.now.events.now (FirstRootsAreMet situation.now rule) }
     requires there { slice_get (situation_plans situation.now) rule ≡ Some (plan_of plan.now) }
@@ -223,12 +228,21 @@ fn ask_plain(
     ensures rule { IfOk result (IsNextOf rule) }
 {
     stale_now_stands();
+    fresh_can_be_asked();
     let nothing = Valuation::empty(alloc);
     let literals = lack(alloc, plan, &nothing, now)?;
     if literals.is_empty() {
         return Ok(Next::Done);
     }
     Ok(Next::ActFor(Missed { rule, literals }))
+}
+
+// Whether a guard looks for the name of the first event that is missed.
+pub fn is_looked_for(situation: &Situation<'_>, missed: &Missed) -> bool {
+    match missed.literals.first() {
+        Some(literal) => situation.past.looks_for(literal.event.name),
+        None => false,
+    }
 }
 
 // Whether an event that is to be caused is absent, or one that is to be suppressed there.

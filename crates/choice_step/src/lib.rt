@@ -4,11 +4,13 @@
 
 pub mod actions;
 mod apply_actions;
+mod asked_again;
 mod changing;
 pub mod choice_loop;
 mod first_missing;
 pub mod idle_steps;
 pub mod laws;
+mod own_events;
 pub mod rule_triggers;
 mod situation;
 mod unasked;

@@ -19,7 +19,7 @@ use Rattle.obligations.specs.declared.literals.LiteralKind.TheVariants.{Cause}
 use Rattle.obligations.specs.declared.present_step.Now.{Now}
 use Rattle.obligations.specs.machine.FreshGuards.{HaveSameFreshEvents}
 use Rattle.obligations.specs.machine.Leaves.{ChangesEvents}
-use Rattle.obligations.specs.machine.MovedPlans.{IsUnmovedIn, IsUnmovedOf, LeavesRestIn}
+use Rattle.obligations.specs.machine.MovedPlans.{IgnoresIn, IsUnmovedIn, IsUnmovedOf, LeavesRestIn}
 use Rattle.obligations.specs.machine.PlanClasses.{IsPlain}
 use Rattle.obligations.specs.machine.UnreadNames.{AreThoseWith, IsStillWanted}
 use Rattle.obligations.specs.meaning.Obligations.{Missing}
@@ -31,7 +31,6 @@ use Rattle.choice_step.specs.declared.first_missing.Next.{Next}
 use Rattle.choice_step.specs.declared.first_missing.Next.TheVariants as next
 use Rattle.choice_step.specs.declared.situation.Situation.{Situation}
 use Rattle.choice_step.specs.declared.unasked.Unasked.{Unasked}
-use Rattle.choice_step.specs.machine.RuleTriggers.{GainsNoSuppressed}
 use Rattle.choice_step.specs.machine.Situations.{SituationFinds, situation_plans}
 use Rattle.choice_step.specs.machine.WantedActions.{AreLiteralsBehind, IsWantedFrom}
 use Rattle.choice_step.specs.meaning.Choice.{MissesNothing, Root, Waiting, roots_from, trace_with_step}
@@ -104,7 +103,6 @@ pub record IsNowOfSituation (situation : Situation) (now : Now) : Type 0 where
   pub hold : GuardsWillHold situation.past.now situation.time now.ordered.now now.tables.now
   pub known : AreKnown situation.past.now now.ordered.now now.tables.now
   pub same : HaveSameFreshEvents now.stale.now (guard_names situation.past.now.guards) now.ordered.now now.events.now
-  pub fewer : GainsNoSuppressed (situation_plans situation) now.ordered.now now.events.now
 
 -- the action is for the first that misses something, with values that were known where the step had the given events
 pub record IsFoundIn (situation : Situation) (given events : List Event) (action : Action) : Type 0 where
@@ -176,6 +174,34 @@ RootIsMet situation events rule = (plan : Plan) → slice_get (situation_plans s
 -- nothing is missing, and no name is stale
 abbrev pub IsDecidedAt : Situation → (events : List Event) → (stale : List NameId) → Type 0
 IsDecidedAt situation events stale = (stale ≡ []) × SituationFinds situation events None
+
+-- ---- roots that are asked again
+
+-- no guard or test of the plan of the rule looks for one of the names
+abbrev pub RootIgnoresAll : Situation → (rule : ℕ) → List NameId → Type 0
+RootIgnoresAll situation rule names = (plan : Plan) → slice_get (situation_plans situation) rule ≡ Some plan
+    → (name : NameId) → Contains names name → IgnoresIn name plan
+
+-- nobody before the root of the rule misses anything, and it misses these, which are some
+pub record IsMissedFirst (situation : Situation) (events : List Event) (rule : ℕ) (literals : List Literal) : Type 0
+  where
+    pub some : 0 < length literals
+    pub wanted : AreWanted events literals
+    pub missed : IsMissedAtRoot situation events events rule literals
+
+-- the root of the rule misses nothing; or what it misses is told; or it was not asked
+abbrev pub IsAskedAlone : Situation → List Event → (rule : ℕ) → Next → Type 0
+IsAskedAlone situation events rule (next.ActFor missed) =
+    (missed.rule ≡ rule) × IsMissedFirst situation events missed.rule missed.literals.items
+IsAskedAlone situation events rule next.Done = RootIsMet situation events rule
+IsAskedAlone situation events rule found = Unit {0}
+
+-- it is so of the root that is the first to be asked, where nobody is pending to be asked
+pub record IsMissedAgain (situation : Situation) (events : List Event) (unasked : Unasked) (missed : Missed) : Type 0
+  where
+    pub first : IsMissedFirst situation events missed.rule missed.literals.items
+    pub none : unasked.asking.ahead ≡ []
+    pub within : missed.rule ≤ unasked.from
 
 -- ---- what an action moves
 

@@ -2,7 +2,7 @@ use Rattle.choice_step.proofs.Vocabulary.{◌∙◌, ◌≤◌, ◌∷◌, [], C
 use Rattle.choice_step.specs.declared.unasked.Unasked.{Unasked}
 use Rattle.choice_step.proofs.FoundLemmas.{found_missed}
 use Rattle.choice_step.proofs.LoopLemmas.{role_of_leaf}
-use Rattle.choice_step.proofs.OneActionLemmas.{kept_on, missed_on}
+use Rattle.choice_step.proofs.OneActionLemmas.{kept_on, met_alone, missed_on}
 use Rattle.choice_step.proofs.TurnLemmas.{goes_stale, leads_once}
 use Rattle.choice_step.proofs.apply_actions.act_one.Goals as goal
 
@@ -48,6 +48,9 @@ returns c =
             acted.distinct applies c.act.new.actions c.act.new.unasked new acted.kept c.goes_on.ensures.from c.goes_on.ensures.again c.goes_on.ensures.told on.passes missed.instances
             within (on.on told),
       );
+      last = λ base is leaves.
+          met_alone c.unread_stays_met.ensures.plans c.unread_stays_met.ensures.instances c.unread_stays_met.ensures.rest situation c.requires.can c.args.rule literal role events after
+          acted.distinct applies leaves base is;
       spoilt = λ told.
           let there = acted.stale.has (subst (λ a. Contains (guard_names situation.past.now.guards) a.event.name) (sym made) (on.looked told)) in
           omega (arith, there.1);

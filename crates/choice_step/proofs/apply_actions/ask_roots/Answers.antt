@@ -1,4 +1,4 @@
-use Rattle.choice_step.proofs.Vocabulary.{◌≡◌, ◌∙◌, ◌⊎◌, Contains, IsUnmovedIn, Some, arith, inl, inr, map, plan_at, plan_of, same_Some, situation_plans, slice_get, subst, sym, ⊎_elim, length-map}
+use Rattle.choice_step.proofs.Vocabulary.{◌≡◌, ◌∙◌, Contains, IsUnmovedIn, Some, arith, inl, inr, map, plan_at, plan_of, same_Some, situation_plans, slice_get, subst, sym, ⊎_elim, length-map}
 use Rattle.std.proofs.lemmas.Option.{slice_get_within}
 use Rattle.sleepers.proofs.NotedGroupLemmas.{below_next}
 use Rattle.choice_step.proofs.apply_actions.ask_roots.Goals as goal

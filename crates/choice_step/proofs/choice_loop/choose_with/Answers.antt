@@ -1,17 +1,67 @@
-use Rattle.choice_step.proofs.Vocabulary.{◌≤◌, CanDecideSituation, Situation, length, map, sym, subst, arith, plan_of}
+use Rattle.choice_step.proofs.Vocabulary.{◌≤◌, CanDecideSituation, IfSome, Situation, length, map, sym, subst, arith, plan_of}
 use Rattle.choice_step.proofs.JustificationLemmas.{will_be_justified}
 use Rattle.choice_step.proofs.LoopLemmas.{Keeps, few, keeps_first, will_decide}
 use Rattle.choice_step.proofs.TurnLemmas.{keeps_led}
 use Rattle.choice_step.proofs.KnownValueLemmas.{possible}
-use Rattle.choice_step.proofs.UnaskedLemmas.{begins_asking, begins_unasked}
+use Rattle.choice_step.proofs.UnaskedLemmas.{begins_asking, begins_unasked, looked_on}
 use Rattle.choice_step.proofs.Vocabulary.{step_moment}
-use Rattle.choice_step.specs.machine.StillToAsk.{IsAskingIn}
+use Rattle.choice_step.specs.machine.StillToAsk.{IsAskingIn, IsMissedAgain}
 use Rattle.pending.specs.machine.AskedEntries.{BeginsAsking}
 use Rattle.choice_step.proofs.choice_loop.choose_with.Goals.{Then-ended}
 use Rattle.choice_step.proofs.choice_loop.choose_with.Goals as goal
 
 pub go_round-requires : goal.go_round-requires
-go_round-requires c = record { can = record { wakes = c.requires.wakes; step = c.requires.can }; kept = c.loop-actions.invariant.1 }
+go_round-requires c = record {
+  can = record { wakes = c.requires.wakes; step = c.requires.can };
+  kept = looked_on _ _ _ _ _ c.find_again.ensures.told c.in_ok-again.ensures.kept c.loop-actions.invariant.1;
+}
+
+-- ---- a root that is asked again by its own events
+
+pub find_again-requires : goal.find_again-requires
+find_again-requires c = record {
+  can = record { wakes = c.requires.wakes; step = c.requires.can };
+  kept = (c.loop-actions.invariant.1.told, c.loop-actions.invariant.1.is);
+}
+
+pub act_alone-requires : goal.act_alone-requires
+act_alone-requires c =
+    let situation : Situation = record {
+      plans = c.args.plans;
+      wakes = c.args.wakes;
+      pending = c.args.pending;
+      past = c.args.past;
+      time = c.args.time;
+      position = c.args.position;
+      inserted = c.args.inserted;
+    } in
+    let found = subst (λ o. IfSome o (IsMissedAgain situation c.loop-actions.events c.find_again.new.unasked)) c.in-Some.is c.in_ok-again.ensures.missed in
+    record {
+      can = record { wakes = c.requires.wakes; step = c.requires.can };
+      missed = found.first.missed;
+      wanted = (found.first.some, found.first.wanted);
+      first = (found.none, found.within);
+      kept = looked_on _ _ _ _ _ c.find_again.ensures.told c.in_ok-again.ensures.kept c.loop-actions.invariant.1;
+    }
+
+pub loop-actions-preserved-in-Some : goal.loop-actions-preserved-in-Some
+loop-actions-preserved-in-Some c = (
+  keeps_led (map plan_of c.args.plans.now) c.args.pending.now.instances c.args.past.now c.args.inserted c.args.time c.args.position c.loop-actions.events c.requires.can.roles
+      c.args.events c.loop-actions.actions _ c.act_alone.new.actions c.loop-actions.invariant.0 c.in_ok-acted.ensures.acts,
+  c.in_ok-acted.ensures.kept,
+)
+
+pub loop-actions-smaller-in-Some : goal.loop-actions-smaller-in-Some
+loop-actions-smaller-in-Some c =
+    let plans = map plan_of c.args.plans.now in
+    let pending = c.args.pending.now.instances in
+    let past = c.args.past.now in
+    let most : length c.act_alone.new.actions ≤ length (possible plans pending past c.args.events) =
+    few plans pending past c.requires.can.roles c.args.inserted c.args.time c.args.position c.args.events c.act_alone.new.actions c.in_ok-acted.acted (loop-actions-preserved-in-Some c).0
+    in
+    omega (arith, most, c.in_ok-acted.ensures.more)
+
+-- ---- a round
 
 pub loop-actions-init : goal.loop-actions-init
 loop-actions-init c =

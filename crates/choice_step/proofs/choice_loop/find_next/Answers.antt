@@ -11,8 +11,8 @@ find-requires c = record {
     hold = c.requires.hold;
     known = c.requires.known;
     same = c.requires.same;
-    fewer = c.requires.fewer;
   };
+  fewer = c.requires.fewer;
   kept = c.requires.kept;
 }
 

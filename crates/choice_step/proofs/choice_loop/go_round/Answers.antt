@@ -1,4 +1,4 @@
-use Rattle.choice_step.proofs.Vocabulary.{◌∙◌, [], sym, subst, AreKnown, AreTablesAtStep, GuardsWillHold, HaveSameEvents, guard_names, SituationLeads, append-nil, arith, refl}
+use Rattle.choice_step.proofs.Vocabulary.{[], sym, subst, HaveSameEvents, guard_names, SituationLeads, append-nil, arith, refl}
 use Rattle.choice_step.specs.machine.StillToAsk.{AreWanted, IsDecidedAt, IsFirstNext, IsMissedAtRoot, IsNextFor, IsUnaskedAt}
 use Rattle.choice_step.specs.machine.Turns.{EndsWith, IsForLast, NoneIsWoken}
 use Rattle.choice_step.proofs.UnaskedLemmas.{looked_on}

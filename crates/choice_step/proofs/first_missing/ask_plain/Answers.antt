@@ -1,8 +1,8 @@
-use Rattle.choice_step.proofs.Vocabulary.{◌∙◌, Literal, AllByRecursion-contains, CanAskPlan, Contains, CanAskRoot, IsWanted, Missing, arith, guards_now, length, no_values, plan_of}
-use Rattle.choice_step.proofs.Vocabulary.{eqb-false, eqb-true, situation_plans, subst, sym, there_from_get}
+use Rattle.choice_step.proofs.Vocabulary.{◌∙◌, Literal, CanAskPlan, Contains, IsWanted, Missing, arith, guards_now, length, no_values, plan_of}
+use Rattle.choice_step.proofs.Vocabulary.{eqb-false, eqb-true, subst, sym}
 use Rattle.choice_step.proofs.FirstActionLemmas.{above, nil_of}
 use Rattle.choice_step.proofs.FoundLemmas.{all_missed, all_wanted, met_now}
-use Rattle.choice_step.proofs.UnaskedLemmas.{roots_asked}
+use Rattle.choice_step.proofs.UnaskedLemmas.{root_asked}
 use Rattle.choice_step.proofs.first_missing.ask_plain.Goals as goal
 
 pub lack-requires : goal.lack-requires
@@ -11,8 +11,7 @@ lack-requires c =
     let now = c.args.now.now in
     let plan = plan_of c.args.plan.now in
     subst (CanAskPlan (guards_now now) plan) (sym c.empty-nothing.ensures)
-    (AllByRecursion-contains (CanAskRoot (guards_now now)) (situation_plans situation) plan (roots_asked situation now c.requires.can c.requires.now c.requires.fresh)
-    (there_from_get (situation_plans situation) c.args.rule plan c.requires.there)).0
+    (root_asked c.fresh_can_be_asked.ensures.plans situation now c.requires.can c.requires.now c.args.rule plan c.requires.there c.requires.ignores)
 
 pub returns-then-is_empty-clause-next : goal.returns-then-is_empty-clause-next
 returns-then-is_empty-clause-next c =

@@ -1,6 +1,6 @@
 use Rattle.choice_step.proofs.Vocabulary.{◌≡◌, ◌∙◌, ◌∷◌, [], List, AllByRecursion-contains, CanAskPlan, CanAskRoot, FirstMissing, IsWanted, IfSome, Some}
 use Rattle.choice_step.proofs.Vocabulary.{first_or_later, guards_now, no_values, none_in_nil, plan_at, plan_of, refl, situation_plans, slice_get, subst, sym, there_from_get, ⊎_elim}
-use Rattle.choice_step.proofs.Vocabulary.{◌<◌, ℕ, get_or, length, map}
+use Rattle.choice_step.proofs.Vocabulary.{◌<◌, ℕ, Contains, get_or, length, map}
 use Rattle.plan_terms.specs.declared.plans.Plan.{Plan as Stored}
 use Rattle.choice_step.proofs.FoundLemmas.{found_at_root, met_now}
 use Rattle.choice_step.proofs.UnaskedLemmas.{roots_asked}
@@ -14,7 +14,7 @@ pub ask_plain-requires : goal.ask_plain-requires
 ask_plain-requires c = record {
   can = c.requires.can;
   now = c.requires.now;
-  fresh = c.requires.fresh;
+  ignores = λ plan at name there. absurd (none_in_nil name (subst (λ l. Contains l name) c.requires.fresh there));
   waiting = c.requires.waiting;
   before = c.requires.before;
   there = read c.args.situation.now.plans.now c.args.rule c.index-situation-rule.result c.requires.within c.index-situation-rule.is;

@@ -30,6 +30,7 @@ pub find_root-requires : goal.find_root-requires
 find_root-requires c = record {
   can = c.requires.can;
   now = c.requires.now;
+  fewer = c.requires.fewer;
   fresh = nil_of c.args.now.now.stale.now (eqb-true _ 0 (sym c.is_empty.ensures ∙ c.if-not-is_empty.false));
   kept = (c.requires.kept.0, record { asking = c.in_ok-next.ensures.kept c.requires.kept.0 c.requires.kept.1.asking; roots = c.requires.kept.1.roots });
   none = subst (IsNextAt c.args.situation.now c.args.now.now (c.find_waiting.new.asking.ahead ≡ [])) c.in-Done.is c.in_ok-next.ensures.next;

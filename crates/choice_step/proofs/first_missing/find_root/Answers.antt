@@ -14,6 +14,7 @@ pub next_root-rule-requires : goal.next_root-rule-requires
 next_root-rule-requires c = record {
   can = c.requires.can;
   now = c.requires.now;
+  fewer = c.requires.fewer;
   fresh = c.requires.fresh;
   kept = (c.requires.kept.0, c.loop-alloc.invariant.0 c.requires.kept.0 c.requires.kept.1);
 }

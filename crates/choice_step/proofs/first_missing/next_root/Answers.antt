@@ -13,7 +13,7 @@ pub returns-clause-before : goal.returns-clause-before
 returns-clause-before c =
     let first = c.first_root-again.ensures in
     let from = c.args.unasked.now.from in
-    sleep_on c.unwoken_is_idle.ensures.missed c.stale_now_stands.ensures c.args.situation.now c.args.now.now c.requires.can c.requires.now c.requires.fresh from c.next_awake-next.result
+    sleep_on c.unwoken_is_idle.ensures.missed c.stale_now_stands.ensures c.args.situation.now c.args.now.now c.requires.can c.requires.now c.requires.fresh c.requires.fewer from c.next_awake-next.result
     c.next_awake-next.ensures.behind c.next_awake-next.ensures.asleep
     (first_met c.args.situation.now c.args.now.now.events.now c.requires.kept.0 c.args.unasked.now from
     (record { within = omega arith; least = λ rule there. omega (arith, first.least rule there, c.if-again-unasked.false); there = inl refl }) c.requires.kept.1)
