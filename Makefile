@@ -1,6 +1,6 @@
 # enf: a first run, files of one's own, the proved program, the tests.
 
-.PHONY: help demo try build install recipes bench bars collisions limits environment refused check trusted test fmt clean service-deps service service-test
+.PHONY: help demo try build install recipes bench bars collisions limits environment refused check trusted test fmt clean service-deps service service-test slices cluster-demo
 
 help:
 	@echo 'make demo                            enforces the logs of examples/, shows what was changed, and checks two policies'
@@ -20,6 +20,8 @@ help:
 	@echo 'make service-deps                    installs what the service is built with, on Debian'
 	@echo 'make service                         builds the service as bin/enfd'
 	@echo 'make service-test                    looks the service over and runs its tests by the proved program'
+	@echo 'make slices                          holds random policies and logs against what is said of slices, by the proved programs'
+	@echo 'make cluster-demo                    enforces slices on four workers over three servers of NATS, kills one of each, and compares'
 	@echo 'make fmt                             lays out the sources of every crate'
 	@echo 'make clean                           removes what was built, the proved program too'
 
@@ -31,6 +33,7 @@ try:
 
 build:
 	@./scripts/build.sh
+	@./scripts/build.sh enf_slice_cli
 
 install:
 	@./scripts/install.sh "$(PREFIX)"
@@ -76,6 +79,12 @@ service:
 
 service-test:
 	@./scripts/service.sh test
+
+slices:
+	@./scripts/slices.py
+
+cluster-demo:
+	@./scripts/cluster.sh
 
 fmt:
 	@for crate in crates/*/; do (cd "$$crate" && rt fmt) || exit 1; done

@@ -1,7 +1,7 @@
 #!/usr/bin/env bash
 # build.sh [CRATE]: proves the program and the crates below it, side by side where they do not wait for each other, says how
 # far it is, and leaves the program as bin/enf beside bin/enf.sources, with the checksums of what it was built from and of
-# itself, the commit and the kit. For another crate it only proves.
+# itself, the commit and the kit. For enf_slice_cli it leaves bin/enf-slice, for another crate it only proves.
 set -u -o pipefail
 cd "$(dirname "$0")/.." || exit 1
 crate=${1:-enf_cli}
@@ -53,6 +53,11 @@ if ! (cd "crates/$crate" && rt all check --jobs "$(checks_at_once)" 2>&1) | tee 
     echo "Not proved. The end of $log:" >&2
     tail -n 20 "$log" >&2
     exit 1
+fi
+if [ "$crate" = enf_slice_cli ]; then
+    (cd crates/enf_slice_cli && rt run < stdin -- split data/raise.sig data/raise.keys 2) > /dev/null 2>> "$log" || exit 1
+    cp crates/enf_slice_cli/out/enf_slice_cli bin/enf-slice
+    echo "bin/enf-slice is the proved program."
 fi
 [ "$crate" = enf_cli ] || exit 0
 

@@ -39,7 +39,10 @@ look_over() {
     if command -v gcc > /dev/null; then
         race=(-race)
     fi
-    go test "${race[@]}" ./...
+    go test "${race[@]}" ./... || return 1
+    if [ -d $debian/src/github.com/nats-io/nats.go ]; then
+        go vet -tags cluster ./internal/cluster ./cmd/enf-worker && go test "${race[@]}" -tags cluster ./internal/cluster
+    fi
 }
 
 if [ -z "${ENF:-}" ]; then

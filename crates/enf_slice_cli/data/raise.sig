@@ -1,0 +1,1 @@
+request(text); alarm(text) +; quake(int);

@@ -1,0 +1,3 @@
+pub mod StreamLemmas
+pub mod KeyLemmas
+pub mod TakingLemmas
