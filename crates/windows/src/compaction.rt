@@ -69,8 +69,21 @@ fn compact(
     *index = made;
     *queue = DueQueue::new(alloc);
     let queued = queue_of(alloc, interval, now, entries)?;
+    let pairs = counted(interval, &queued, entries);
     *queue = queued;
-    Ok(count(entries))
+    Ok(pairs)
+}
+
+// How many times there are. Of an interval with an end each waits in the queue.
+fn counted(interval: Interval, queued: &DueQueue, entries: &Entries) -> usize
+    requires { length queued.now.dues ≤ count_pairs entries.now.entries }
+    ensures { result ≤ count_pairs entries.now.entries }
+{
+    if interval.high.is_some() {
+        queued.len()
+    } else {
+        count(entries)
+    }
 }
 
 // Whether so many rows, or so many dues, are many against so many times.
@@ -138,6 +151,10 @@ fn all_dues(alloc: Global, entries: &Entries) -> Result<Vec<Due>, NoMemory>
 fn push_dues(times: &Times, place: usize, out: &mut Vec<Due>) -> Result<(), NoMemory>
     ensures { OnOk result (out.new.items ≡ out.old.items ++ map (λ time. due time place) times.now) }
 {
+    if let Some(time) = times.only() {
+        out.push(Due { time, place })?;
+        return Ok(());
+    }
     for index in 0..times.len() {
         out.push(Due {
             time: times.at(index),

@@ -195,7 +195,7 @@ fn entries_of(alloc: Global, seed: Seed, pairs: Vec<KeptPair>) -> Result<Entries
     requires { AreRising pairs.items }
     ensures { IfOk result (λ entries. AreEntriesOf pairs.items entries.entries) }
 {
-    let mut entries = IndexMap::with_hasher(alloc, seed);
+    let mut entries = IndexMap::with_capacity_and_hasher(alloc, pairs.len(), seed)?;
     for pair in pairs {
         put_time(alloc, &mut entries, pair)?;
     }
@@ -208,10 +208,13 @@ fn put_time(alloc: Global, entries: &mut Entries, pair: KeptPair) -> Result<(), 
     ensures { OnOk result ((done : List Pair) → AreEntriesOf done entries.old.entries → AreBefore done pair
         → AreEntriesOf (done ++ pair ∷ []) entries.new.entries) }
 {
-    if let Some(place) = entries.get_index_of(&pair.row) {
-        return entries[place].push(alloc, pair.time);
-    }
-    entries.insert(pair.row, Times::one(pair.time))?;
+    let (place, held) = entries.insert_full(pair.row, Times::one(pair.time))?;
+    let Some(before) = held else {
+        return Ok(());
+    };
+    let mut times = before;
+    times.push(alloc, pair.time)?;
+    entries[place] = times;
     Ok(())
 }
 

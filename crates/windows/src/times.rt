@@ -1,5 +1,5 @@
 //! The times at which one row was right, of which only those are kept that a later step can ask for.
-ghost use Rattle.std.specs.Prelude.{◌≡◌, ◌↔◌, ◌++◌, ◌∷◌, [], ◌+◌, ◌-◌, ◌<◌, ◌≤◌, ◌⊎◌, ℕ, IfOk, OnErr, OnOk};
+ghost use Rattle.std.specs.Prelude.{◌≡◌, ◌↔◌, ◌++◌, ◌∷◌, [], ◌+◌, ◌-◌, ◌<◌, ◌≤◌, ◌⊎◌, ℕ, IfOk, IfSome, OnErr, OnOk};
 ghost use Rattle.std.specs.Prelude.{All, IsFalse, IsTrue, Some, Contains, get_or, length, slice_get};
 ghost use Rattle.windows.specs.machine.StoredTimes.{stored_times};
 ghost use Rattle.windows.specs.machine.WindowEntries.{AddsAtMost, AddsTime, IsSomeIn, SettlesTimes};
@@ -90,6 +90,17 @@ impl Times {
             Stored::Empty => unreachable!(),
             Stored::One(time) => *time,
             Stored::Several(times) => times[place],
+        }
+    }
+
+    // The time, where it is known to be the only one.
+    pub fn only(&self) -> Option<u64>
+        ensures { IfSome result (λ time. self.now ≡ time ∷ []) }
+    {
+        match &self.stored {
+            Stored::Empty => None,
+            Stored::One(time) => Some(*time),
+            Stored::Several(_times) => None,
         }
     }
 

@@ -1,4 +1,4 @@
-use Rattle.windows.proofs.Vocabulary.{◌≡◌, IfSome, length, subst, sym}
+use Rattle.windows.proofs.Vocabulary.{IfSome, length, subst, sym}
 use Rattle.windows.specs.machine.RowIndexes.{IsIndexOf}
 use Rattle.windows.specs.machine.WindowEntries.{rows_of}
 use Rattle.windows.proofs.CompactLemmas.{compact_kept}
@@ -42,5 +42,5 @@ returns-clause-window c =
       queued = c.in_ok-queued.ensures.queued;
       indexed = c.in_ok-made.ensures;
       compact = compact_kept c.args.entries.now.entries c.take_out.new.entries.entries c.in_ok-queued.queued c.take_out.ensures c.in_ok-queued.ensures.count;
-      counted = c.count.ensures;
+      counted = c.counted-pairs.ensures;
     }

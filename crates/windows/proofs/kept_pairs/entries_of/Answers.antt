@@ -4,7 +4,7 @@ use Rattle.windows.proofs.RestoreLemmas.{no_entries}
 use Rattle.windows.proofs.kept_pairs.entries_of.Goals as goal
 
 pub loop-pair-init : goal.loop-pair-init
-loop-pair-init c = (tt, tt, subst (AreEntriesOf []) (sym c.with_hasher-entries.ensures.empty) no_entries, refl)
+loop-pair-init c = (tt, tt, subst (AreEntriesOf []) (sym c.in_ok-entries.ensures.empty) no_entries, refl)
 
 pub put_time-requires : goal.put_time-requires
 put_time-requires c =
