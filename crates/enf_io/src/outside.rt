@@ -89,9 +89,8 @@ impl<F: Read + Write + OpenFile + Drop> FileOnce for F {
     // Reads no further than `most` bytes, however long the file is.
     fn read_front_once(mut self, alloc: Global, most: usize) -> io::Result<Vec<u8>> {
         let mut bytes = Vec::new(alloc);
-        Read::by_ref(&mut self)
-            .take(most as u64)
-            .read_to_end(&mut bytes)?;
+        let mut front = Read::by_ref(&mut self).take(most as u64);
+        io::copy(&mut front, &mut bytes)?;
         bytes.truncate(most);
         Ok(bytes)
     }
