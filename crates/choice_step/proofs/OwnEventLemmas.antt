@@ -1,6 +1,7 @@
 -- The events of a step that have some names, one after another.
 use Rattle.choice_step.proofs.Vocabulary.{◌≡◌, ◌⊎◌, Bool, true, false, List, [], ◌∷◌, ◌++◌, Contains, refl, sym, subst, inl, inr, ⊎_elim, Event, NameId, none_in_nil}
-use Rattle.choice_step.proofs.Vocabulary.{Contains-append_left, Contains-push, Contains-push_cases}
+use Rattle.choice_step.proofs.Vocabulary.{Contains-append_left, Contains-push, Contains-push_cases, slice_index_or, suc, zero, ℕ}
+use Rattle.std.specs.Prelude.{replicate}
 use Rattle.enf_data.specs.machine.EventSets.{InsertsItem}
 use Rattle.obligations.specs.machine.FreshGuards.{HaveSameFreshEvents}
 use Rattle.choice_step.specs.machine.OwnEvents.{AreDivided, looked_for}
@@ -45,6 +46,12 @@ not_looked_for name (UntilPlan node place low high left right) not = (
 )
 not_looked_for name (NextPlan node place high body) not = (tt, not_looked_for name body not)
 
+-- no mark is set among those that are not
+pub none_marked : (n k : ℕ) → slice_index_or (replicate n false) k false ≡ false
+none_marked zero k = refl
+none_marked (suc n) zero = refl
+none_marked (suc n) (suc k) = none_marked n k
+
 pub divided_none : (names : List NameId) → AreDivided names [] [] []
 divided_none names = record {
   among = λ event there. there;
@@ -73,6 +80,15 @@ module _ (names : List NameId) (events own : List Event) (others : List NameId) 
     all = λ other there. ⊎_elim
         (λ old. ⊎_elim (λ in_own. inl (put_keeps event own new after puts other in_own)) (λ named. inr named) (divided.all other old))
         (λ (same : event ≡ other). inl (subst (Contains after) same (put_has event own new after puts))) (Contains-push_cases events event other there);
+    apart = divided.apart;
+  }
+
+  -- the name of an event is told already
+  pub divided_again : Contains others event.name → AreDivided names (events ++ event ∷ []) own others
+  divided_again told = record {
+    among = λ other there. Contains-append_left events (event ∷ []) other (divided.among other there);
+    all = λ other there. ⊎_elim (divided.all other)
+        (λ (same : event ≡ other). inr (subst (λ (e : Event). Contains others e.name) same told)) (Contains-push_cases events event other there);
     apart = divided.apart;
   }
 

@@ -149,7 +149,7 @@ fn ask_alone(
     }
     let looked_for = names.as_slice();
     let all = events.as_slice();
-    if count_of(looked_for, all) > all.len() / OWN_PART {
+    if count_of(alloc, looked_for, all)? > all.len() / OWN_PART {
         return Ok(Next::Renew);
     }
     let own = OwnEvents::of(alloc, situation.pending.seed(), looked_for, all)?;

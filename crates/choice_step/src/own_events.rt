@@ -1,22 +1,23 @@
 //! The events of a step for which a plan looks.
-ghost use Rattle.std.specs.Prelude.{◌≡◌, ◌++◌, Contains, IfOk, IsFalse, OnOk};
-ghost use Rattle.choice_step.specs.machine.OwnEvents.{AreDivided, looked_for};
+ghost use Rattle.std.specs.Prelude.{◌≡◌, ◌⊎◌, ◌++◌, Contains, IfOk, IsFalse, IsTrue, OnOk};
+ghost use Rattle.choice_step.specs.machine.OwnEvents.{AreDivided, IsMarked, looked_for};
+ghost use Rattle.enf_data.specs.declared.events.NameId.{NameId as Name};
 ghost use Rattle.enf_formula.specs.machine.Agreement.{names_in_formula};
 ghost use Rattle.enf_formula.specs.machine.FormulaViews.{tree_of};
 ghost use Rattle.plan_terms.specs.machine.StoredPlans.{plan_of};
 
 use crate::changing::put_last;
-use enf_data::Event;
 use enf_data::event_sets::EventSet;
 use enf_data::events::NameId;
 use enf_data::items::Duplicate;
 use enf_data::memory::NoMemory;
 use enf_data::seeds::Seed;
+use enf_data::{Event, MOST_NAMES};
 use enf_formula::Formula;
 use plan_terms::Plan;
 use std::alloc::Global;
 
-// The events of a step that have some names, and the names of the others, each as often as an event has it.
+// The events of a step that have some names, and the names of the others, each once where it is one of a signature.
 #[derive(Drop)]
 pub struct OwnEvents {
     pub events: EventSet,
@@ -34,14 +35,19 @@ impl OwnEvents {
         ensures { IfOk result (λ own. AreDivided names.now events.now own.events own.others.items) }
     {
         let mut own = EventSet::new(alloc);
-        let mut others = Vec::with_capacity(alloc, events.len())?;
+        let mut others = Vec::new(alloc);
+        let mut told = Marks::none(alloc)?;
         for event in events {
+            if told.has(event.name) {
+                continue;
+            }
             if is_one_of(event.name, names) {
                 let copy = event.duplicate(alloc)?;
                 put_last(seed, copy, &mut own)?;
                 continue;
             }
-            others.push_reserved(event.name);
+            others.push(event.name)?;
+            told.put(event.name);
         }
         Ok(OwnEvents {
             events: own,
@@ -51,15 +57,48 @@ impl OwnEvents {
 }
 
 // How many of the events have one of the names.
-pub fn count_of(names: &[NameId], events: &[Event]) -> usize {
-    let mut count = 0;
-    for event in events {
-        if !is_one_of(event.name, names) {
-            continue;
-        }
-        count += 1;
+pub fn count_of(alloc: Global, names: &[NameId], events: &[Event]) -> Result<usize, NoMemory> {
+    let mut wanted = Marks::none(alloc)?;
+    for name in names {
+        wanted.put(*name);
     }
-    count
+    Ok(events.iter().filter(|event| wanted.has(event.name)).count())
+}
+
+// Marks of names, by their numbers. Of those that no signature has there are none.
+#[derive(Drop)]
+struct Marks {
+    marks: Vec<bool>,
+}
+
+impl Marks {
+    // No name is marked.
+    fn none(alloc: Global) -> Result<Marks, NoMemory>
+        ensures { IfOk result (λ none. (name : Name) → IsMarked none.marks.items name → ⊥) }
+    {
+        Ok(Marks {
+            marks: vec![in alloc; false; MOST_NAMES as usize]?,
+        })
+    }
+
+    // Whether the name is marked.
+    fn has(&self, name: NameId) -> bool
+        ensures { IsTrue result → IsMarked self.now.marks.items name }
+    {
+        let place = name.0 as usize;
+        place < self.marks.len() && self.marks[place]
+    }
+
+    // Marks the name, where it has a mark.
+    fn put(&mut self, name: NameId)
+        ensures { (other : Name) → IsMarked self.new.marks.items other
+            → (name ≡ other) ⊎ IsMarked self.old.marks.items other }
+    {
+        let place = name.0 as usize;
+        if place < self.marks.len() {
+            self.marks[place] = true;
+        }
+    }
 }
 
 // Whether the name is one of some.

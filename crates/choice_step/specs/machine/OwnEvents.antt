@@ -1,7 +1,7 @@
 -- The events of a step for which a plan looks.
 use Rattle.enf_data.specs.declared.events.Event.{Event}
 use Rattle.enf_data.specs.declared.events.NameId.{NameId}
-use Rattle.std.specs.Prelude.{◌⊎◌, ◌++◌, List, [], Contains}
+use Rattle.std.specs.Prelude.{◌⊎◌, ◌++◌, Bool, List, [], Contains, IsTrue, false, slice_index_or}
 use Rattle.enf_formula.specs.machine.Agreement.{names_in_formula}
 use Rattle.plan_terms.specs.meaning.Plans.{Plan, CausePlan, SuppressPlan, Both, Either, TestOr, Guarded, EventuallyPlan, AlwaysPlan}
 use Rattle.plan_terms.specs.meaning.Plans.{UntilPlan, NextPlan}
@@ -24,3 +24,7 @@ pub record AreDivided (names : List NameId) (events own : List Event) (others : 
   pub among : (event : Event) → Contains own event → Contains events event
   pub all : (event : Event) → Contains events event → Contains own event ⊎ Contains others event.name
   pub apart : (name : NameId) → Contains others name → Contains names name → ⊥
+
+-- the name has its mark among these
+abbrev pub IsMarked : List Bool → NameId → Type 0
+IsMarked marks name = IsTrue (slice_index_or marks name.0 false)
