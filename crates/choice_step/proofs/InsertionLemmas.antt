@@ -1,9 +1,10 @@
 -- That something is emitted, where inserted steps end.
-use Rattle.choice_step.proofs.Vocabulary.{◌≡◌, ℕ, zero, suc, ◌+◌, ◌<◌, ◌≤◌, Bool, true, false, List, [], ◌∷◌, ◌++◌, Option, None, Some, Contains, refl, sym, subst, inl, inr, ⊎_elim, ◌⊎◌, arith}
+use Rattle.choice_step.proofs.Vocabulary.{◌≡◌, ℕ, ◌<◌, ◌≤◌, Bool, true, false, List, [], ◌∷◌, ◌++◌, Option, None, Some, Contains, refl, sym, subst, inl, inr, length, ⊎_elim, ◌⊎◌, arith}
 use Rattle.choice_step.proofs.Vocabulary.{cases_lt, false≢true, All-contains, All-from_recursion, AllByRecursion-from_contains, first_or_later, here, later, none_in_nil, HasNoRepeats, Event, Step}
 use Rattle.choice_step.proofs.Vocabulary.{VarId, Formula, Record, StepRecord, Tick, time_of, StepKind, System, Inserted, NothingClashes, has_deadline, Plan, PendCanBeAsked, PendExists, AtNode}
 use Rattle.choice_step.proofs.Vocabulary.{HasDeadline, NoneIsOver, Pend, node_of, PlansStand, CanAskRoots, Instance, ActedStep, is_inserted, steps_of, Follows, GoesOut, InsertsSteps, IsLeastDeadline}
-use Rattle.choice_step.proofs.Vocabulary.{IsPassed, NoneIsPassed, StepGoesOut, AreDistinct, IsReach, SomeDecision, SomeFollows, SomeInserts}
+use Rattle.choice_step.proofs.Vocabulary.{IsPassed, NoneIsPassed, StepGoesOut, AreDistinct, EntriesFall, IsMeasure, SomeDecision, SomeFollows, SomeInserts}
+use Rattle.choice_step.proofs.EntryLemmas.{by_entries}
 use Rattle.choice_step.proofs.UniquenessLemmas.{distinct_behind}
 
 -- ---- the least deadline
@@ -125,8 +126,8 @@ module _ (plans : List Plan) where
 -- ---- what is emitted
 
 module _ (exists : PendExists) (asked : PendCanBeAsked) (some : SomeDecision) (guards : List (Formula × List VarId))
-    (plans : List Plan) (reach : List Instance → ℕ) (nothing : NothingClashes plans) (stand : PlansStand plans)
-    (can : CanAskRoots guards plans) (is : IsReach plans reach) where
+    (plans : List Plan) (width : ℕ) (measure : List Instance → List ℕ) (nothing : NothingClashes plans) (stand : PlansStand plans)
+    (can : CanAskRoots guards plans) (is : IsMeasure plans width measure) where
   goes_out : (trace : List Step) (kind : StepKind) (time : ℕ) (events : List Event) → HasNoRepeats events
       → (o : ActedStep) × GoesOut plans trace kind time events o
   goes_out trace kind time events distinct =
@@ -138,35 +139,30 @@ module _ (exists : PendExists) (asked : PendCanBeAsked) (some : SomeDecision) (g
         record { pending = pending.0; pend = pending.1; kind_is = refl; time_is = refl; decided = done.2 },
       )
 
-  -- each inserted step is later than the one before it, and none is later than what was pending reaches
-  inserts_from : (left : ℕ) (trace : List Step) (until : Option ℕ) (from : ℕ) (pending : List Instance) → Pend plans trace pending
-      → NoneIsOver plans pending from → reach pending < from + left → (out : List ActedStep) × InsertsSteps plans trace until out
-  inserts_from zero trace until from pending pend over within =
+  -- what is inserted after a trace with these numbers of what it leaves pending
+  abbrev InsertsFrom : (until : Option ℕ) → List ℕ → Type 0
+  InsertsFrom until entries = (trace : List Step) (pending : List Instance) → Pend plans trace pending → measure pending ≡ entries
+      → (out : List ActedStep) × InsertsSteps plans trace until out
+
+  -- the numbers are lower after each inserted step
+  inserts_at : (until : Option ℕ) (entries : List ℕ) → length entries ≡ width
+      → ((after : List ℕ) → length after ≡ width → EntriesFall entries after → InsertsFrom until after) → InsertsFrom until entries
+  inserts_at until entries wide lower trace pending pend same =
       ⊎_elim
       (λ none. ([], (pending, pend, none)))
       (λ next.
-      let low = over_at plans pending from over next.1.instance next.1.there next.0 next.1.is in
-      let high = is.above pending next.1.instance next.0 next.1.there next.1.is in
-      absurd (omega (arith, low, high, within)))
-      (none_or_passed plans until pending)
-  inserts_from (suc left) trace until from pending pend over within =
-      ⊎_elim
-      (λ none. ([], (pending, pend, none)))
-      (λ next.
-      let low = over_at plans pending from over next.1.instance next.1.there next.0 next.1.is in
       let o = goes_out trace Inserted next.0 [] tt in
       let after = exists guards plans (trace ++ o.0.step ∷ []) stand can in
       let falls = is.falls trace pending after.0 next.0 o.0 pend next.1 o.1 after.1 in
-      let less = falls.1 in
-      let rest = inserts_from left (trace ++ o.0.step ∷ []) until (next.0 + 1) after.0 after.1 falls.0 (omega (arith, less, low, within)) in
+      let rest = lower (measure after.0) (is.wide after.0) (subst (λ (l : List ℕ). EntriesFall l (measure after.0)) same falls)
+      (trace ++ o.0.step ∷ []) after.0 after.1 refl in
       (o.0 ∷ rest.0, (next.0, (pending, pend, next.1), next.2, o.1, rest.1)))
       (none_or_passed plans until pending)
 
   inserts : (trace : List Step) (until : Option ℕ) → (out : List ActedStep) × InsertsSteps plans trace until out
   inserts trace until =
       let pending = exists guards plans trace stand can in
-      inserts_from (reach pending.0 + 1) trace until 0 pending.0 pending.1
-      (none_over plans pending.0 0 (λ i there deadline of. omega arith)) (omega arith)
+      by_entries width (InsertsFrom until) (inserts_at until) (measure pending.0) (is.wide pending.0) trace pending.0 pending.1 refl
 
   answer : (trace : List Step) (next : Record) (records : List Record) → AreDistinct (next ∷ records)
       → (out : List ActedStep) × StepGoesOut plans trace next out
@@ -183,9 +179,9 @@ module _ (exists : PendExists) (asked : PendCanBeAsked) (some : SomeDecision) (g
       ((inserted.0 ++ own.0) ++ rest.0, (inserted.0, own.0, rest.0, inserted.1, own.1, rest.1, refl))
 
 pub some_inserts : PendExists → PendCanBeAsked → SomeDecision → SomeInserts
-some_inserts exists asked some guards plans reach trace until nothing stand can is =
-    inserts exists asked some guards plans reach nothing stand can is trace until
+some_inserts exists asked some guards plans width measure trace until nothing stand can is =
+    inserts exists asked some guards plans width measure nothing stand can is trace until
 
 pub some_follows : PendExists → PendCanBeAsked → SomeDecision → SomeFollows
-some_follows exists asked some guards plans reach trace records nothing stand can is distinct =
-    follows exists asked some guards plans reach nothing stand can is trace records distinct
+some_follows exists asked some guards plans width measure trace records nothing stand can is distinct =
+    follows exists asked some guards plans width measure nothing stand can is trace records distinct

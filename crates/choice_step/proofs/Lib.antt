@@ -5,6 +5,7 @@ pub mod AskedAgainLemmas
 pub mod AskedLeafLemmas
 pub mod CaseLemmas
 pub mod ChangingLemmas
+pub mod EntryLemmas
 pub mod ExistenceLemmas
 pub mod FiniteListLemmas
 pub mod FirstActionLemmas

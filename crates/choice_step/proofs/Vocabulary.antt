@@ -30,7 +30,7 @@ pub use Rattle.choice_step.specs.machine.FittingEvents.{CausesFit, EventsFit, Ke
 pub use Rattle.choice_step.specs.machine.FittingLaws.{DecidedFits, DrainFits, FollowedFits}
 pub use Rattle.choice_step.specs.machine.JustificationLaws.{DecidedAreJustified, LeastDeadlineIsNeeded, WillBeJustified}
 pub use Rattle.choice_step.specs.machine.Laws.{ActionsAreLawful, AreDistinct, CausesAlone, DecidedIsDistinct, DecidedMissesNothing, DecidesIsOne, DrainIsOne}
-pub use Rattle.choice_step.specs.machine.Laws.{EventsAreActedOnOnce, FollowsIsOne, IsReach, SomeDecision, SomeFollows, SomeInserts}
+pub use Rattle.choice_step.specs.machine.Laws.{EntriesFall, EventsAreActedOnOnce, FollowsIsOne, IsMeasure, SomeDecision, SomeFollows, SomeInserts}
 pub use Rattle.choice_step.specs.machine.LoopActions.{ActsInTurn, AllCanBeAsked, GoesFrom}
 pub use Rattle.choice_step.specs.machine.StillToAsk.{RootsAreMet}
 pub use Rattle.choice_step.specs.machine.RuleTriggers.{AllSleep, AreAllIn, GainsNoSuppressed, HasNoneOf, IsAway, woken_by, woken_number}

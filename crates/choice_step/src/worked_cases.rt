@@ -10,6 +10,7 @@ ghost use Rattle.choice_step.specs.machine.Cases.{due_at_5, empty_at_0, event_r,
 ghost use Rattle.choice_step.specs.machine.Cases.{for_second_at, for_second_root, p_by_5, p_is_there, p_where_no_q};
 ghost use Rattle.choice_step.specs.machine.Cases.{q_at_3, q_at_7, q_at_15, q_is_not, second_due_at_3, served_at_5};
 ghost use Rattle.choice_step.specs.machine.Cases.{served_at_6};
+ghost use Rattle.choice_step.specs.machine.Laws.{EntriesFall};
 ghost use Rattle.choice_step.specs.meaning.Follows.{IsLeastDeadline};
 ghost use Rattle.trace_meaning.specs.meaning.Traces.{StepRecord, Tick};
 ghost use Rattle.trace_meaning.specs.declared.kinds.StepKind.TheVariants.{Inserted, System};
@@ -95,6 +96,14 @@ pub fn choices_of_pending()
 {
     follows_is_one();
 }
+
+/// Which lists of numbers are below others.
+pub fn lower_numbers()
+    ensures first { EntriesFall (1 ∷ 0 ∷ []) (0 ∷ 5 ∷ []) }
+    ensures behind { EntriesFall (2 ∷ 1 ∷ []) (2 ∷ 0 ∷ []) }
+    ensures not_above { EntriesFall (1 ∷ 5 ∷ []) (2 ∷ 0 ∷ []) → ⊥ }
+    ensures not_the_same { EntriesFall (2 ∷ 1 ∷ []) (2 ∷ 1 ∷ []) → ⊥ }
+{}
 
 /// Of two deadlines that pass the lesser is served first, whatever the order of the rules.
 pub fn deadlines_in_order()

@@ -3,10 +3,11 @@ use Rattle.enforcer_core.proofs.Vocabulary.{◌≡◌, ℕ, ◌+◌, ◌<◌, �
 use Rattle.enforcer_core.proofs.Vocabulary.{unsigned_Decides, count_by, cases_lt, false≢true, sum_by-append, sum_by-cons, same_Some, Contains-append, first_or_later, here, later, none_in_nil, Step}
 use Rattle.enforcer_core.proofs.Vocabulary.{has_deadline, Plan, NodesStandIn, AreWellFormed, class_of, greatest, EdgesRise, Typed, time_now, Gathers, MissingIsOne, After, PendingAfter, node_of}
 use Rattle.enforcer_core.proofs.Vocabulary.{BegunIsNamed, BegunIsReached, MissedIsReached, ReachedIsInside, Instance, trace_with_step, DecidedMissesNothing, AnyCountsFall, CountsFall, is_of_class}
-use Rattle.enforcer_core.proofs.Vocabulary.{count_of_class}
+use Rattle.enforcer_core.proofs.Vocabulary.{count_of_class, counts_below, class_counts, classes_of, EntriesFall, zero, suc, length, map, inl, inr, there_from_get, Contains-map, with_deadlines, NoneIsOver}
+use Rattle.enforcer_core.proofs.Vocabulary.{NoneGoesOver, WindowsAreInOrder, PendCame, PendIsOne, ServedCountsFall, Decides}
 use Rattle.enforcer_core.proofs.ClassLemmas.{greatest_is}
-use Rattle.enforcer_core.proofs.TriggerLemmas.{IsDue}
-use Rattle.enforcer_core.proofs.ReachLemmas.{IsMet, IsNew, Leaves, Passes, Stays, becomes, due_at, due_ends, ending_met, is_served, leaves_new, new_lower, roots_new, stays_new}
+use Rattle.enforcer_core.proofs.TriggerLemmas.{IsDue, has_node}
+use Rattle.enforcer_core.proofs.ReachLemmas.{IsMet, IsNew, Leaves, Passes, Stays, becomes, due_at, due_ends, ending_met, in_deadlines, is_served, leaves_new, new_lower, roots_new, stays_new}
 
 -- ---- counts
 
@@ -271,3 +272,56 @@ module _ (stand : NodesStandIn) (inside : ReachedIsInside) (named : BegunIsNamed
       least.instance d.0 due
       (ending_met stand inside named begun_reached missing_one typed formed accepted rise ranked.ranks (trace_with_step trace deadline events) pending s.ordered s.quiet s.owed
       least.instance d.0 due (due_ends (time_now (trace_with_step trace deadline events)) least.instance d.0 d.2 now))
+
+-- ---- compared from the greatest class down
+
+-- they are as many as there are classes
+pub counts_are_wide : (ranks : List ℕ) (plans : List Plan) (pending : List Instance) (classes : ℕ)
+    → length (counts_below ranks plans classes pending) ≡ classes
+counts_are_wide ranks plans pending zero = refl
+counts_are_wide ranks plans pending (suc class) = let rest = counts_are_wide ranks plans pending class in omega (arith, rest)
+
+module _ (ranks : List ℕ) (plans : List Plan) (before after : List Instance) (fall : CountsFall ranks plans before after) where
+  fall_below : (classes : ℕ) → fall.class < classes
+      → EntriesFall (counts_below ranks plans classes before) (counts_below ranks plans classes after)
+  fall_below zero less = absurd (omega (arith, less))
+  fall_below (suc class) less = ⊎_elim
+      (λ (lower : fall.class < class). inr (fall.above class lower, fall_below class lower))
+      (λ (others : class ≤ fall.class). inl (subst (λ (c : ℕ). count_of_class ranks plans c after < count_of_class ranks plans c before)
+      {x = fall.class} {y = class} (omega (arith, less, others)) fall.fewer))
+      (cases_lt fall.class class)
+
+  -- the class of which there are fewer is that of a node with a deadline
+  class_is_below : fall.class < classes_of ranks plans
+  class_is_below = ⊎_elim
+      (λ less. less)
+      (λ (above : classes_of ranks plans ≤ fall.class).
+      let none = none_counted ranks plans fall.class before (λ i node there found has same.
+      let h = has_node plans i node found in
+      let among = in_deadlines plans h.plan node (there_from_get plans i.rule h.plan h.plan_is) h.inside has in
+      let within = greatest_is (map (class_of ranks plans) (with_deadlines plans)) (class_of ranks plans node)
+      (Contains-map (class_of ranks plans) (with_deadlines plans) node among) in
+      omega (arith, above, within, same)) in
+      let fewer = fall.fewer in
+      absurd (omega (arith, fewer, none)))
+      (cases_lt fall.class (classes_of ranks plans))
+
+  entries_fall : EntriesFall (class_counts ranks plans before) (class_counts ranks plans after)
+  entries_fall = fall_below (classes_of ranks plans) class_is_below
+
+-- what is pending after a trace is in windows that are in order, and goes where the step leads it
+pub served_counts_fall : AnyCountsFall → NoneGoesOver → WindowsAreInOrder → PendCame → PendIsOne → ServedCountsFall
+served_counts_fall falls over windows came one typed trace pending after deadline o works pend least goes_out pend_after =
+    let same : trace ++ o.step ∷ [] ≡ trace_with_step trace deadline o.step.events =
+    ap (λ (time : ℕ). trace_with_step trace time o.step.events) goes_out.time_is in
+    let from = came typed.plans trace o.step after pend_after in
+    let goes : PendingAfter typed.plans (trace ++ o.step ∷ []) pending after =
+    subst (λ (l : List Instance). PendingAfter typed.plans (trace ++ o.step ∷ []) l after) (one typed.plans trace from.0 pending from.1 pend) from.2 in (
+      subst (NoneIsOver typed.plans after) goes_out.time_is
+          (over typed trace o.step pending after works goes (subst (NoneIsOver typed.plans pending) (sym goes_out.time_is) least.least)),
+      entries_fall typed.ranked.ranks typed.plans pending after
+          (falls typed trace pending after deadline o.actions o.step.events works.formed works.accepted works.ranked
+          (windows typed trace pending works pend) least
+          (subst (λ (l : List Instance). Decides typed.plans trace l true deadline [] o.actions o.step.events) (one typed.plans trace goes_out.pending pending goes_out.pend pend) goes_out.decided)
+          (subst (λ (steps : List Step). PendingAfter typed.plans steps pending after) same goes)),
+    )

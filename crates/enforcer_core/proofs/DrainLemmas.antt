@@ -1,5 +1,5 @@
 -- Where no deadline is left the policy is satisfied, and so each trace that is ready can be continued well.
-use Rattle.enforcer_core.proofs.Vocabulary.{◌≡◌, ℕ, ◌+◌, ◌<◌, ◌≤◌, true, List, [], ◌∷◌, ◌++◌, All, length, refl, sym, subst, append_assoc, arith, Option, None, Contains, AllByRecursion, append-nil}
+use Rattle.enforcer_core.proofs.Vocabulary.{◌≡◌, ℕ, ◌<◌, ◌≤◌, true, List, [], ◌∷◌, ◌++◌, All, length, refl, sym, subst, append_assoc, arith, Option, None, Contains, AllByRecursion, append-nil}
 use Rattle.enforcer_core.proofs.Vocabulary.{All-cons, All-contains, All-from_recursion, All-nil, All-weaker, IsTrace, AllByRecursion-contains, AllByRecursion-from_contains, no_values, Step, VarId}
 use Rattle.enforcer_core.proofs.Vocabulary.{Formula, Sat, Good, Satisfies, StepKind, Inserted, has_deadline, is_future, Plan, CausePlan, SuppressPlan, Both, Either, TestOr, Guarded, EventuallyPlan}
 use Rattle.enforcer_core.proofs.Vocabulary.{AlwaysPlan, UntilPlan, NextPlan, Typed, WorkTogether, AtNode, HasDeadline, IsClean, IsReady, NoneIsOver, Pend, OwesAt, Residual, AllHold, PendingIsEnough}
@@ -80,13 +80,13 @@ nothing_drains plans trace clock is_trace ready pending pend none = record {
 }
 
 first_drains : (plans : List Plan) (trace : List Step) (clock deadline : ℕ) (o : ActedStep) (out : List ActedStep)
-    → clock ≤ deadline → o.step.time ≡ deadline → IsDrained plans (trace ++ o.step ∷ []) (deadline + 1) out
+    → clock ≤ deadline → o.step.time ≡ deadline → IsDrained plans (trace ++ o.step ∷ []) deadline out
     → IsDrained plans trace clock (o ∷ out)
 first_drains plans trace clock deadline o out le at d =
     let longer : (trace ++ o.step ∷ []) ++ steps_of out ≡ trace ++ steps_of (o ∷ out) = append_assoc trace (o.step ∷ []) (steps_of out) in
     record {
       later = All-cons (λ (step : Step). clock ≤ step.time) o.step (steps_of out) (omega (arith, le, at))
-          (All-weaker (λ (step : Step). deadline + 1 ≤ step.time) (λ (step : Step). clock ≤ step.time)
+          (All-weaker (λ (step : Step). deadline ≤ step.time) (λ (step : Step). clock ≤ step.time)
           (λ step then. omega (arith, then, le)) (steps_of out) d.later);
       is_trace = subst IsTrace longer d.is_trace;
       clean = subst (IsClean plans) longer d.clean;
@@ -109,13 +109,13 @@ module _ (laws : DrainLaws) (typed : Typed) (together : WorkTogether typed) wher
       (subst (λ (l : List Instance). NoneIsOver plans l clock) (laws.steps.pending plans trace ready.pending pending ready.pend pend) ready.in_time)
       least.there deadline least.is in
       let next = pend_of plans (trace ++ o.step ∷ []) None out rest in
-      let falls = laws.steps.falls typed trace pending next.0 deadline o together pend least goes next.1 in
+      let falls = laws.steps.counts typed trace pending next.0 deadline o together pend least goes next.1 in
       let distinct = laws.distinct plans trace goes.pending true deadline [] o.actions o.step.events tt
       (subst (λ (kind : StepKind). Decides plans trace goes.pending (is_inserted kind) deadline [] o.actions o.step.events) {x = Inserted} {y = Inserted} refl goes.decided) in
       let last = ready.not_later in let at = goes.time_is in
       first_drains plans trace clock deadline o out le goes.time_is
-      (drained out (trace ++ o.step ∷ []) (deadline + 1) (laws.steps.grows trace o.step is_trace (omega (arith, last, le, at)) distinct)
-      (ready_behind laws.steps plans trace Inserted deadline [] o goes pending pend clock (deadline + 1) ready
+      (drained out (trace ++ o.step ∷ []) deadline (laws.steps.grows trace o.step is_trace (omega (arith, last, le, at)) distinct)
+      (ready_behind laws.steps plans trace Inserted deadline [] o goes pending pend clock deadline ready
       (laws.steps.windows typed trace pending together pend) least.least (omega arith) next.0 next.1 falls.0) rest)
 
   -- each trace that is ready can be continued well, by the drain that there is

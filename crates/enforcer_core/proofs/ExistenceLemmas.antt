@@ -1,27 +1,30 @@
--- What is owed by the plans of an accepted policy is owed for no longer at the steps that serve it, so these steps end.
+-- What the plans of an accepted policy have pending falls, counted by class, at the steps that serve it, so these steps
+-- end.
 use Rattle.enforcer_core.proofs.Vocabulary.{◌≡◌, List, ◌++◌, None, refl, sym, subst, ◌∙◌, Formula, Step, Record, NameEntry, OnePlans, ArePlanned, Typed, WorkTogether, WellFormedCanBeAsked}
-use Rattle.enforcer_core.proofs.Vocabulary.{WellFormedStand, ActedStep, steps_of, Follows, FollowsDrain, AreDistinct, DrainIsOne, FollowsIsOne, IsReach, SomeFollows, SomeInserts}
-use Rattle.enforcer_core.proofs.Vocabulary.{DeadlinesAreWithinReach, ServedDeadlinesFall, reach_of, JustOneFollows, JustOneFollowsPolicy, JustOneFollowsToEnd, SomethingDrains, SomethingFollows}
+use Rattle.enforcer_core.proofs.Vocabulary.{WellFormedStand, ActedStep, steps_of, Follows, FollowsDrain, AreDistinct, DrainIsOne, FollowsIsOne, IsMeasure, SomeFollows, SomeInserts}
+use Rattle.enforcer_core.proofs.Vocabulary.{ServedCountsFall, class_counts, classes_of, JustOneFollows, JustOneFollowsPolicy, JustOneFollowsToEnd, SomethingDrains, SomethingFollows}
 use Rattle.enforcer_core.proofs.Vocabulary.{FollowsPolicy, FollowsToEnd}
+use Rattle.enforcer_core.proofs.CountLemmas.{counts_are_wide}
 
-module _ (fall : ServedDeadlinesFall) (reach : DeadlinesAreWithinReach) (founded : WellFormedCanBeAsked) (stand : WellFormedStand) where
-  is_reach : (typed : Typed) → WorkTogether typed → IsReach typed.plans (reach_of typed.ranked.ranks typed.plans)
-  is_reach typed works = record {
-    above = λ pending i deadline there is. reach typed.ranked.ranks typed.plans pending i deadline there is;
-    falls = λ trace pending after deadline o pend least goes behind. fall typed trace pending after deadline o works pend least goes behind;
+module _ (fall : ServedCountsFall) (founded : WellFormedCanBeAsked) (stand : WellFormedStand) where
+  is_measure : (typed : Typed) → WorkTogether typed
+      → IsMeasure typed.plans (classes_of typed.ranked.ranks typed.plans) (class_counts typed.ranked.ranks typed.plans)
+  is_measure typed works = record {
+    wide = λ pending. counts_are_wide typed.ranked.ranks typed.plans pending (classes_of typed.ranked.ranks typed.plans);
+    falls = λ trace pending after deadline o pend least goes behind. (fall typed trace pending after deadline o works pend least goes behind).1;
   }
 
   pub something_follows : SomeFollows → SomethingFollows
   something_follows some typed trace records works distinct =
-      some typed.guards typed.plans (reach_of typed.ranked.ranks typed.plans) trace records works.formed.roles
+      some typed.guards typed.plans (classes_of typed.ranked.ranks typed.plans) (class_counts typed.ranked.ranks typed.plans) trace records works.formed.roles
       (stand typed.plans typed.guards works.formed) (founded typed.plans typed.guards works.formed)
-      (is_reach typed works) distinct
+      (is_measure typed works) distinct
 
   pub something_drains : SomeInserts → SomethingDrains
   something_drains some typed trace works =
-      some typed.guards typed.plans (reach_of typed.ranked.ranks typed.plans) trace None works.formed.roles
+      some typed.guards typed.plans (classes_of typed.ranked.ranks typed.plans) (class_counts typed.ranked.ranks typed.plans) trace None works.formed.roles
       (stand typed.plans typed.guards works.formed) (founded typed.plans typed.guards works.formed)
-      (is_reach typed works)
+      (is_measure typed works)
 
 pub just_one_follows : SomethingFollows → FollowsIsOne → JustOneFollows
 just_one_follows some one typed trace records works distinct =

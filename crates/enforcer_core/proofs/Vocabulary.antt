@@ -23,8 +23,8 @@ pub use Rattle.choice_step.specs.machine.AskedLeaves.{AreAskedActions}
 pub use Rattle.choice_step.specs.machine.FittingEvents.{CausesFit, TraceEventsFit}
 pub use Rattle.choice_step.specs.machine.FittingLaws.{FollowedFits}
 pub use Rattle.choice_step.specs.machine.JustificationLaws.{DecidedAreJustified, LeastDeadlineIsNeeded}
-pub use Rattle.choice_step.specs.machine.Laws.{ActionsAreLawful, AreDistinct, CausesAlone, DecidedIsDistinct, DecidedMissesNothing, DrainIsOne, EventsAreActedOnOnce, FollowsIsOne, IsReach}
-pub use Rattle.choice_step.specs.machine.Laws.{SomeFollows, SomeInserts}
+pub use Rattle.choice_step.specs.machine.Laws.{ActionsAreLawful, AreDistinct, CausesAlone, DecidedIsDistinct, DecidedMissesNothing, DrainIsOne, EntriesFall, EventsAreActedOnOnce, FollowsIsOne}
+pub use Rattle.choice_step.specs.machine.Laws.{IsMeasure, SomeFollows, SomeInserts}
 pub use Rattle.choice_step.specs.machine.RuleTriggers.{AllSleep}
 pub use Rattle.choice_step.specs.meaning.ActedSteps.{ActedStep, AllAreJustified, Applies, AreJustified, StepIsJustified, as_it_came, change_by, change_of, out_step, out_steps, untouched}
 pub use Rattle.choice_step.specs.meaning.Choice.{Candidate, CandidateMisses, Decides, IsFirstMissing, MissesNothing, Root, Waiting, all_asked, roots_from, trace_with_step}
@@ -67,9 +67,9 @@ pub use Rattle.enforcer_core.specs.machine.LawfulChanges.{ChangesLawfully, Permi
 pub use Rattle.enforcer_core.specs.machine.Laws.{DrainIsJustified, FollowsAlone, FollowsFitsSignature, FollowsIsJustified, NothingDrains, PlannedAreSatisfied, StandsForGood}
 pub use Rattle.enforcer_core.specs.machine.MadeSteps.{acted_step, acted_steps}
 pub use Rattle.enforcer_core.specs.machine.PassedDeadlines.{IsLeastPassed, LetsOut, NoneIsLeft, PassesDeadlines}
-pub use Rattle.enforcer_core.specs.machine.Reach.{CountsFall, WindowsAreOrdered, count_of_class, is_of_class, reach_at, reach_of, widest_window}
+pub use Rattle.enforcer_core.specs.machine.Reach.{CountsFall, WindowsAreOrdered, class_counts, classes_of, count_of_class, counts_below, is_of_class, reach_at, reach_of, widest_window}
 pub use Rattle.enforcer_core.specs.machine.ReachLaws.{AnyCountsFall, AnyDeadlinesFall, DeadlinesAreWithinReach, HighsAreNear, LedDeadlinesFall, LedStaysInReach, NoneGoesOver, ReachIsWithinHorizon}
-pub use Rattle.enforcer_core.specs.machine.ReachLaws.{ServedDeadlinesFall, WindowsAreInOrder}
+pub use Rattle.enforcer_core.specs.machine.ReachLaws.{ServedCountsFall, ServedDeadlinesFall, WindowsAreInOrder}
 pub use Rattle.enforcer_core.specs.machine.SnapshotLaws.{KeptCanBeTakenUp, SavedKeepsBounds}
 pub use Rattle.enforcer_core.specs.machine.Snapshots.{IsKeptOf, SavesTrace, formulas_in, policy_operators, saved_bounds}
 pub use Rattle.enforcer_core.specs.machine.Stands.{DrainsNothing, FollowsDrainFrom, FollowsFrom, IsJustifiedFrom, KeepsStanding, LeavesAlone, SatisfiesBehind, Stands}

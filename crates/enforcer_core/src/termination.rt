@@ -1,7 +1,8 @@
 //! Why inserted steps end: laws over the definitions, each the contract of a function that does nothing.
 ghost use Rattle.enforcer_core.specs.machine.ReachLaws.{AnyCountsFall, AnyDeadlinesFall, DeadlinesAreWithinReach};
 ghost use Rattle.enforcer_core.specs.machine.ReachLaws.{HighsAreNear, LedDeadlinesFall, LedStaysInReach, NoneGoesOver};
-ghost use Rattle.enforcer_core.specs.machine.ReachLaws.{ReachIsWithinHorizon, ServedDeadlinesFall, WindowsAreInOrder};
+ghost use Rattle.enforcer_core.specs.machine.ReachLaws.{ReachIsWithinHorizon, ServedCountsFall, ServedDeadlinesFall};
+ghost use Rattle.enforcer_core.specs.machine.ReachLaws.{WindowsAreInOrder};
 
 use choice_step::laws::{actions_are_lawful, decided_misses_nothing};
 use obligations::laws::{
@@ -25,9 +26,11 @@ pub fn serving_ends_anywhere()
     decided_misses_nothing();
 }
 
-/// So it is after a trace, by what is pending there; what is owed there is owed within the horizon.
+/// So it is after a trace, by what is pending there, of which the counts by class fall, compared from the greatest class
+/// down; what is owed there is owed within the horizon.
 pub fn serving_ends()
     ensures fall { ServedDeadlinesFall }
+    ensures counts { ServedCountsFall }
     ensures horizon { ReachIsWithinHorizon }
     ensures near { HighsAreNear }
     ensures reach { DeadlinesAreWithinReach }

@@ -5,7 +5,7 @@ use Rattle.enf_data.specs.declared.steps.Step.{Step}
 use Rattle.enf_data.specs.declared.terms.VarId.{VarId}
 use Rattle.enf_data.specs.meaning.Membership.{HasNoRepeats}
 use Rattle.std.specs.List.{AllByRecursion}
-use Rattle.std.specs.Prelude.{ℕ, Bool, List, [], map, ◌≡◌, ◌+◌, ◌≤◌, ◌∷◌, ◌++◌, Contains}
+use Rattle.std.specs.Prelude.{ℕ, Bool, List, [], map, ◌≡◌, ◌<◌, ◌≤◌, ◌∷◌, ◌++◌, ◌⊎◌, length}
 use Rattle.std.specs.Prelude.{Option, IsTrue, All}
 use Rattle.enf_formula.specs.meaning.Satisfaction.{Formula}
 use Rattle.trace_meaning.specs.declared.kinds.StepKind.TheVariants.{Inserted}
@@ -18,7 +18,7 @@ use Rattle.obligations.specs.machine.AskablePlans.{CanAskOf, CanAskRoots}
 use Rattle.obligations.specs.machine.PlanClasses.{PlansStand}
 use Rattle.obligations.specs.machine.Successors.{LeadsAt}
 use Rattle.obligations.specs.machine.UnmetGoals.{AreUnmet}
-use Rattle.obligations.specs.meaning.Pending.{PendingAfter, HasDeadline, NoneIsOver, Pend}
+use Rattle.obligations.specs.meaning.Pending.{PendingAfter, Pend}
 use Rattle.pending.specs.machine.Moments.{step_moment}
 use Rattle.pending.specs.machine.PendingLists.{IsPendingListOf, PendingList}
 use Rattle.pending.specs.machine.Waits.{SleepsNow}
@@ -104,29 +104,34 @@ abbrev pub DrainIsOne : Type 0
 DrainIsOne = (plans : List Plan) (trace : List Step) (out others : List ActedStep)
     → FollowsDrain plans trace out → FollowsDrain plans trace others → out ≡ others
 
--- a bound on all deadlines of what is pending, which does not grow where the least deadline is served; the deadlines
--- that are left there are later
-pub record IsReach (plans : List Plan) (reach : List Instance → ℕ) : Type 0 where
-  pub above : (pending : List Instance) (i : Instance) (deadline : ℕ) → Contains pending i
-      → HasDeadline plans i deadline → deadline ≤ reach pending
+-- of two lists of numbers the second is below the first: the first entries that differ fall
+abbrev pub EntriesFall : (before after : List ℕ) → Type 0
+EntriesFall [] after = ⊥
+EntriesFall (n ∷ before) [] = ⊥
+EntriesFall (n ∷ before) (m ∷ after) = (m < n) ⊎ ((m ≡ n) × EntriesFall before after)
+
+-- as many numbers for whatever is pending, which fall so where the least deadline is served
+pub record IsMeasure (plans : List Plan) (width : ℕ) (measure : List Instance → List ℕ) : Type 0 where
+  pub wide : (pending : List Instance) → length (measure pending) ≡ width
   pub falls : (trace : List Step) (pending after : List Instance) (deadline : ℕ) (o : ActedStep)
       → Pend plans trace pending → IsLeastDeadline plans pending deadline
       → GoesOut plans trace Inserted deadline [] o → Pend plans (trace ++ o.step ∷ []) after
-      → NoneIsOver plans after (deadline + 1) × (reach after ≤ reach pending)
+      → EntriesFall (measure pending) (measure after)
 
--- where such a bound is there, inserted steps come to an end after each trace, at a drain too, so that a list of them
+-- where such numbers are there, inserted steps come to an end after each trace, at a drain too, so that a list of them
 -- is there
 abbrev pub SomeInserts : Type 0
-SomeInserts = (guards : List (Formula × List VarId)) (plans : List Plan) (reach : List Instance → ℕ)
-    (trace : List Step) (until : Option ℕ) → NothingClashes plans → PlansStand plans → CanAskRoots guards plans
-    → IsReach plans reach → (out : List ActedStep) × InsertsSteps plans trace until out
+SomeInserts = (guards : List (Formula × List VarId)) (plans : List Plan) (width : ℕ)
+    (measure : List Instance → List ℕ) (trace : List Step) (until : Option ℕ) → NothingClashes plans
+    → PlansStand plans → CanAskRoots guards plans → IsMeasure plans width measure
+    → (out : List ActedStep) × InsertsSteps plans trace until out
 
--- where such a bound is there, some list of steps is emitted for the records of a log
+-- where such numbers are there, some list of steps is emitted for the records of a log
 abbrev pub SomeFollows : Type 0
-SomeFollows = (guards : List (Formula × List VarId)) (plans : List Plan) (reach : List Instance → ℕ)
-    (trace : List Step) (records : List Record) → NothingClashes plans → PlansStand plans
-    → CanAskRoots guards plans
-    → IsReach plans reach → AreDistinct records → (out : List ActedStep) × Follows plans trace records out
+SomeFollows = (guards : List (Formula × List VarId)) (plans : List Plan) (width : ℕ)
+    (measure : List Instance → List ℕ) (trace : List Step) (records : List Record) → NothingClashes plans
+    → PlansStand plans → CanAskRoots guards plans → IsMeasure plans width measure → AreDistinct records
+    → (out : List ActedStep) × Follows plans trace records out
 
 -- actions are lawful changes where the names that plans cause can be caused, and those that they suppress can be
 -- suppressed

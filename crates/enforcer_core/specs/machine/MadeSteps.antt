@@ -1,6 +1,5 @@
 -- The steps that an enforcer made: how a call keeps them, and the acted steps that they are.
 use Rattle.std.specs.Prelude.{List, map, [], ◌∷◌}
-use Rattle.trace_meaning.specs.meaning.Traces.{OutStep}
 use Rattle.choice_step.specs.meaning.ActedSteps.{ActedStep}
 use Rattle.enforcer_core.specs.declared.steps.Kept.{Kept}
 use Rattle.enforcer_core.specs.declared.steps.Kept.TheVariants.{One, Many}

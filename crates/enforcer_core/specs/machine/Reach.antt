@@ -1,7 +1,7 @@
 -- Up to when something can be owed of what is pending.
 use Rattle.std.specs.List.{AllByRecursion}
 use Rattle.std.specs.Prelude.{ℕ, List, map, ◌+◌, ◌*◌, cond, Option, None, Some, ◌≤◌, ◌&&◌, Bool}
-use Rattle.std.specs.Prelude.{false, nat_eq, count_by, ◌≡◌, ◌<◌}
+use Rattle.std.specs.Prelude.{false, nat_eq, count_by, ◌≡◌, ◌<◌, zero, suc, [], ◌∷◌}
 use Rattle.plan_terms.specs.meaning.Plans.{window_end, has_deadline, Plan}
 use Rattle.obligations.specs.declared.instances.Instance.{Instance}
 use Rattle.obligations.specs.meaning.Pending.{node_of}
@@ -43,3 +43,17 @@ pub record CountsFall (ranks : List ℕ) (plans : List Plan) (before after : Lis
   pub fewer : count_of_class ranks plans class after < count_of_class ranks plans class before
   pub above : (higher : ℕ) → class < higher
       → count_of_class ranks plans higher after ≡ count_of_class ranks plans higher before
+
+-- one above the greatest class of a node with a deadline
+abbrev pub classes_of : (ranks : List ℕ) → List Plan → ℕ
+classes_of ranks plans = greatest (map (class_of ranks plans) (with_deadlines plans)) + 1
+
+-- how many instances there are of each class below a number, from the greatest down
+abbrev pub counts_below : (ranks : List ℕ) → List Plan → (classes : ℕ) → List Instance → List ℕ
+counts_below ranks plans zero pending = []
+counts_below ranks plans (suc class) pending =
+    count_of_class ranks plans class pending ∷ counts_below ranks plans class pending
+
+-- how many there are of each class, from the greatest down
+abbrev pub class_counts : (ranks : List ℕ) → List Plan → List Instance → List ℕ
+class_counts ranks plans pending = counts_below ranks plans (classes_of ranks plans) pending

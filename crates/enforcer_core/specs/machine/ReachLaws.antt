@@ -15,6 +15,7 @@ use Rattle.obligations.specs.machine.Successors.{LeadsAt}
 use Rattle.obligations.specs.meaning.Pending.{HasDeadline, NoneIsOver, Pend, PendingAfter}
 use Rattle.choice_step.specs.machine.ActionChains.{ActsFrom}
 use Rattle.choice_step.specs.machine.AskedLeaves.{AreAskedActions}
+use Rattle.choice_step.specs.machine.Laws.{EntriesFall}
 use Rattle.choice_step.specs.meaning.ActedSteps.{ActedStep}
 use Rattle.choice_step.specs.meaning.Choice.{Decides, trace_with_step}
 use Rattle.choice_step.specs.meaning.Follows.{GoesOut, IsLeastDeadline}
@@ -22,7 +23,7 @@ use Rattle.rank_check.specs.meaning.AcceptedPlans.{AreAccepted}
 use Rattle.rank_check.specs.meaning.Ranked.{AreRanked}
 use Rattle.enforce_types.specs.machine.TypedPolicies.{WorkTogether}
 use Rattle.enforce_types.specs.meaning.PolicyRefusals.{Typed}
-use Rattle.enforcer_core.specs.machine.Reach.{reach_of, WindowsAreOrdered, CountsFall}
+use Rattle.enforcer_core.specs.machine.Reach.{reach_of, WindowsAreOrdered, CountsFall, class_counts}
 
 -- no pending deadline is after the time up to which something can be owed
 abbrev pub DeadlinesAreWithinReach : Type 0
@@ -61,6 +62,17 @@ AnyCountsFall = (typed : Typed) (trace : List Step) (pending after : List Instan
     → Decides typed.plans trace pending true deadline [] actions events
     → PendingAfter typed.plans (trace_with_step trace deadline events) pending after
     → CountsFall typed.ranked.ranks typed.plans pending after
+
+-- where the least deadline is served after a trace, no deadline after that step is earlier, and the counts of what is
+-- pending by class are lower, compared from the greatest class down
+abbrev pub ServedCountsFall : Type 0
+ServedCountsFall = (typed : Typed) (trace : List Step) (pending after : List Instance) (deadline : ℕ)
+    (o : ActedStep) → WorkTogether typed → Pend typed.plans trace pending
+    → IsLeastDeadline typed.plans pending deadline → GoesOut typed.plans trace Inserted deadline [] o
+    → Pend typed.plans (trace ++ o.step ∷ []) after
+    → NoneIsOver typed.plans after deadline
+    × EntriesFall (class_counts typed.ranked.ranks typed.plans pending)
+    (class_counts typed.ranked.ranks typed.plans after)
 
 -- ---- the horizon
 

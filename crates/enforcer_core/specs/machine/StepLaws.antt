@@ -8,7 +8,7 @@ use Rattle.choice_step.specs.machine.Laws.{ActionsAreLawful, CausesAlone, Decide
 use Rattle.choice_step.specs.machine.Laws.{DecidedIsDistinct}
 use Rattle.enforcer_core.specs.machine.ExistenceLaws.{SomethingDrains}
 use Rattle.enforcer_core.specs.machine.ReachLaws.{DeadlinesAreWithinReach, LedDeadlinesFall, LedStaysInReach}
-use Rattle.enforcer_core.specs.machine.ReachLaws.{NoneGoesOver, ReachIsWithinHorizon, ServedDeadlinesFall}
+use Rattle.enforcer_core.specs.machine.ReachLaws.{NoneGoesOver, ReachIsWithinHorizon, ServedCountsFall}
 use Rattle.enforcer_core.specs.machine.ReachLaws.{WindowsAreInOrder}
 
 -- the laws of one step of an enforcer
@@ -25,7 +25,7 @@ pub record StepLaws : Type 0 where
   pub within : WithinJoins
   pub lawful : LawfulJoins
   pub reached : DeadlinesAreWithinReach
-  pub falls : ServedDeadlinesFall
+  pub counts : ServedCountsFall
   pub horizon : ReachIsWithinHorizon
   pub none_over : NoneGoesOver
   pub windows : WindowsAreInOrder
