@@ -2,7 +2,7 @@
 use Rattle.enforcer_core.proofs.Vocabulary.{◌≡◌, ℕ, ◌+◌, ◌≤◌, Bool, false, List, [], ◌∷◌, ◌++◌, map, refl, sym, ap, subst, ◌∙◌, arith, All, None, Contains, length-map, All-weaker, here, Step}
 use Rattle.enforcer_core.proofs.Vocabulary.{placed_guard, PendingIsEnough, MOST_TIME, IsPendingListOf, StoredTyped, WorkTogether, typed_of, Record, time_of, ActedStep, steps_of, AreDistinct}
 use Rattle.enforcer_core.proofs.Vocabulary.{EnforcerDrains, Enforcing, policy_plans, acted_step, acted_steps, FollowsDrainFrom, FollowsFrom, IsJustifiedFrom, SatisfiesBehind, Stands, DrainIsJustified}
-use Rattle.enforcer_core.proofs.Vocabulary.{FollowsIsJustified, IsServing, enforcing_at, reach_in, NoneIsLeft, PassesDeadlines, StepLaws, Remembered}
+use Rattle.enforcer_core.proofs.Vocabulary.{FollowsIsJustified, IsServing, enforcing_at, reach_in, NoneIsLeft, PassesDeadlines, StepLaws, Remembered, length, most_inserted}
 use Rattle.enforcer_core.proofs.StepLemmas.{deadline_listed}
 use Rattle.enforcer_core.proofs.DrainLemmas.{drained_satisfies}
 use Rattle.enforcer_core.proofs.ReachLemmas.{reach_later}
@@ -88,9 +88,9 @@ module _ (policy : StoredTyped) (r r' : Remembered) (clock later : ℕ) (out : L
 -- in the program's words
 pub drains : (policy : StoredTyped) (r r' : Remembered) (clock later : ℕ) (steps : List made.OutStep)
     → PassesDeadlines None (enforcing_at policy r clock) (acted_steps steps) (enforcing_at policy r' later)
-    → NoneIsLeft None (enforcing_at policy r' later) → PendingIsEnough → IsServing (enforcing_at policy r clock)
+    → NoneIsLeft None (enforcing_at policy r' later) → length steps ≤ most_inserted → PendingIsEnough → IsServing (enforcing_at policy r clock)
     → EnforcerDrains (enforcing_at policy r clock) (record { steps = steps }) (enforcing_at policy r' later)
-drains policy r r' clock later steps passes none enough serves =
+drains policy r r' clock later steps passes none few enough serves =
     let out = acted_steps steps in
     record {
       going = refl;
@@ -100,6 +100,7 @@ drains policy r r' clock later steps passes none enough serves =
         position = let at = passes.goes_on.position in omega (arith, at, length-map steps acted_step);
         goes_on = passes.goes_on.goes_on;
       };
+      few = omega (arith, few);
       rising = rise_below clock later MOST_TIME out passes.rising (drain_bounded policy r r' clock later out passes none serves);
       stands = passes.stands;
       changed = passes.changed;

@@ -1,7 +1,7 @@
 -- That few steps are emitted for a record: at most one at each time that is over after it, and its own.
 use Rattle.enforcer_core.proofs.Vocabulary.{◌≡◌, ℕ, ◌+◌, ◌-◌, ◌≤◌, Bool, true, List, [], ◌∷◌, length, suc, refl, ap, arith, length-map, NameId, Step, StepKind, System, Inserted, AreChangedTo, OutStep}
-use Rattle.enforcer_core.proofs.Vocabulary.{onto_system, system_steps, Record, StepRecord, Tick, recorded, time_of, ActedStep, out_step, out_steps, TakesAreFew, RiseWithin, RisesBy, acted_step}
-use Rattle.enforcer_core.proofs.Vocabulary.{acted_steps, Option, Enforcing, PassesDeadlines}
+use Rattle.enforcer_core.proofs.Vocabulary.{onto_system, system_steps, recorded, time_of, ActedStep, out_step, out_steps, TakesAreFew, RiseWithin, RisesBy, acted_step}
+use Rattle.enforcer_core.proofs.Vocabulary.{acted_steps}
 
 -- the inserted ones are no more than the times between
 rise_few_by : (kind : StepKind) (from until time : ℕ) (o : OutStep) (out : List ActedStep) → from ≤ until
@@ -26,15 +26,6 @@ as_many causable suppressible [] [] are = refl
 as_many causable suppressible [] (o ∷ out) are = absurd are
 as_many causable suppressible (step ∷ steps) [] are = absurd are
 as_many causable suppressible (step ∷ steps) (o ∷ out) are = ap suc (as_many causable suppressible steps out are.1)
-
--- where no record is taken, they are no more than the times that the clock rises by
-pub passed_are_few : (until : Option ℕ) (before : Enforcing) (out : List ActedStep) (after : Enforcing)
-    → PassesDeadlines until before out after → length out ≤ after.clock - before.clock
-passed_are_few until before out after passes =
-    let few = rise_few before.clock after.clock out passes.within.rises passes.rising in
-    let lawful = passes.changed.lawful (λ name. true) (λ name. true) (record { caused = λ name is. refl; suppressed = λ name is. refl }) in
-    let same = as_many (λ name. true) (λ name. true) [] (system_steps (out_steps out)) lawful.changed in
-    omega (arith, few, same)
 
 pub takes_are_few : TakesAreFew
 takes_are_few before next made after takes =

@@ -2,7 +2,7 @@
 use Rattle.enforcer_core.proofs.Vocabulary.{false, ℕ, ◌+◌, ◌<◌, ◌≤◌, List, [], ◌∷◌, ◌++◌, length-append, refl, sym, subst, ◌∙◌, arith, Some, append-nil, length-map, HasNoRepeats, Event, Step, Record}
 use Rattle.enforcer_core.proofs.Vocabulary.{StepRecord, Tick, most_time, time_of, StepKind, System, AreCopies, Plan, MOST_HORIZON, StoredTyped, WorkTogether, typed_of, NoneIsOver, MOST_TIME}
 use Rattle.enforcer_core.proofs.Vocabulary.{ActedStep, steps_of, GoesOut, steps_behind, ChangesLawfully, RiseWithin, RisesBy, IsCallInTime, EnforcerTakes, Enforcing, policy_plans, acted_step}
-use Rattle.enforcer_core.proofs.Vocabulary.{acted_steps, enforcing_at, reach_in, LetsOut, NoneIsLeft, PassesDeadlines, CanDecideAt, IsDecided, RemembersTrace, Stands, StepLaws, Remembered}
+use Rattle.enforcer_core.proofs.Vocabulary.{acted_steps, enforcing_at, reach_in, LetsOut, NoneIsLeft, PassesDeadlines, CanDecideAt, IsDecided, RemembersTrace, Stands, StepLaws, Remembered, length, most_inserted}
 use Rattle.enforcer_core.proofs.LawfulChangeLemmas.{changes_join, none_changes, system_changes}
 use Rattle.enforcer_core.proofs.PassedDeadlineLemmas.{passes_all, rise_join}
 use Rattle.enforcer_core.proofs.StepLemmas.{none_earlier, stands_behind, stands_later}
@@ -10,7 +10,7 @@ use Rattle.enforcer_core.specs.declared.steps.OutStep as made
 
 module _ (laws : StepLaws) (policy : StoredTyped) (r r' : Remembered) (from middle time : ℕ) (le : from ≤ time) (out : List ActedStep)
     (passes : PassesDeadlines (Some time) (enforcing_at policy r from) out (enforcing_at policy r' middle))
-    (none : NoneIsLeft (Some time) (enforcing_at policy r' middle)) where
+    (none : NoneIsLeft (Some time) (enforcing_at policy r' middle)) (few : length out ≤ most_inserted) where
   abbrev plans : List Plan
   plans = policy_plans policy
 
@@ -38,6 +38,7 @@ module _ (laws : StepLaws) (policy : StoredTyped) (r r' : Remembered) (from midd
           in_reach = passes.serves.in_reach;
         };
         goes_on = record { policy = refl; clock_is = refl; position = passes.goes_on.position; goes_on = refl };
+        few = omega (arith, few);
         rising = subst (RiseWithin from time) (append-nil out) (rise_join from middle time out [] passes.within.rises within passes.rising tt);
         stands = λ trace stands. later (trace ++ steps_of out) (passes.stands trace stands);
         changed = subst (ChangesLawfully plans from time (Tick time ∷ [])) (append-nil out)
@@ -95,6 +96,7 @@ module _ (laws : StepLaws) (policy : StoredTyped) (r r' : Remembered) (from midd
             position = omega (arith, position, then, length-append out (acted_step o ∷ []));
             goes_on = refl;
           };
+          few = omega (arith, few, length-append out (acted_step o ∷ []));
           rising = rise_join from middle time out (acted_step o ∷ []) passes.within.rises within passes.rising
               (subst (λ (kind : StepKind). RisesBy kind middle time o.time (λ next. RiseWithin next time [])) (sym decided.kind_is) tt);
           stands = λ trace stands. subst (Stands after) (steps_behind trace out (acted_step o ∷ []))
@@ -125,6 +127,7 @@ takes_record e after next steps in_time out = record {
     position = let at = out.goes_on.position in omega (arith, at, length-map steps acted_step);
     goes_on = out.goes_on.goes_on;
   };
+  few = let few = out.few in omega (arith, few, length-map steps acted_step);
   rising = out.rising;
   stands = out.stands;
   changed = out.changed;

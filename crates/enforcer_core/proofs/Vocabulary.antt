@@ -74,7 +74,7 @@ pub use Rattle.enforcer_core.specs.machine.SnapshotLaws.{KeptCanBeTakenUp, Saved
 pub use Rattle.enforcer_core.specs.machine.Snapshots.{IsKeptOf, SavesTrace, formulas_in, policy_operators, saved_bounds}
 pub use Rattle.enforcer_core.specs.machine.Stands.{DrainsNothing, FollowsDrainFrom, FollowsFrom, IsJustifiedFrom, KeepsStanding, LeavesAlone, SatisfiesBehind, Stands}
 pub use Rattle.enforcer_core.specs.machine.StepLaws.{DrainLaws, StepLaws}
-pub use Rattle.enforcer_core.specs.machine.StepMemory.{AreFactsOf, CanDecideAt, IsDecided, IsIdle, RemembersTrace}
+pub use Rattle.enforcer_core.specs.machine.StepMemory.{most_inserted, AreFactsOf, CanDecideAt, IsDecided, IsIdle, RemembersTrace}
 pub use Rattle.enforcer_core.specs.meaning.FollowsPolicy.{FollowsPolicy, FollowsToEnd}
 pub use Rattle.formula_reader.specs.machine.Laws.{ReadIsWellFormed}
 pub use Rattle.monitorable_guard.specs.machine.Guards.{BoundFormula}

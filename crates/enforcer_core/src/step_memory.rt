@@ -1,6 +1,6 @@
 //! What is remembered of the steps that were emitted.
 ghost use Rattle.std.specs.Prelude.{◌≡◌, ◌+◌, ◌^◌, ◌<◌, ◌≤◌, ℕ, [], IfOk, IsTrue, OnErr};
-ghost use Rattle.std.specs.Prelude.{OnOk, map};
+ghost use Rattle.std.specs.Prelude.{OnOk, length, map};
 ghost use Rattle.choice_step.specs.machine.RuleTriggers.{AllSleep};
 ghost use Rattle.choice_step.specs.meaning.Follows.{is_inserted as is_of_deadline};
 ghost use Rattle.plan_terms.specs.machine.StoredPlans.{plan_of};
@@ -19,7 +19,7 @@ ghost use Rattle.enforcer_core.specs.machine.Enforcers.{policy_plans};
 ghost use Rattle.enforcer_core.specs.machine.EnforcerInvariant.{IsServing, enforcing_at};
 ghost use Rattle.enforcer_core.specs.machine.PassedDeadlines.{IsLeastPassed, LetsOut, NoneIsLeft, PassesDeadlines};
 ghost use Rattle.enforcer_core.specs.machine.StepMemory.{AreFactsOf, CanAskRemembered, CanDecideAt, IsDecided, IsIdle};
-ghost use Rattle.enforcer_core.specs.machine.StepMemory.{PendingLeadsTo, most_positions};
+ghost use Rattle.enforcer_core.specs.machine.StepMemory.{PendingLeadsTo, most_inserted, most_positions};
 
 use crate::laws::step_laws;
 use crate::plan_facts::PlanFacts;
@@ -62,6 +62,9 @@ pub(crate) struct Passed {
 
 // How many events are looked at one by one at most, to find out that a step does nothing.
 const MOST_LOOKED_AT: usize = 8;
+
+// How many steps one call inserts at most: no memory holds a longer list.
+const MOST_INSERTED: usize = (1 << 62) - 2;
 
 impl Remembered {
     // Decides a step of a kind at a time, which has these events to begin with, and remembers it. Once memory has run
@@ -210,6 +213,7 @@ impl Remembered {
             (acted_steps passed.steps.items) (enforcing_at policy.now self.new passed.clock)) }
         ensures none_left { IfOk result (λ passed. NoneIsLeft until
             (enforcing_at policy.now self.new passed.clock)) }
+        ensures few { IfOk result (λ passed. length passed.steps.items ≤ most_inserted) }
         ensures nothing { IfOk result (λ passed. NoneIsLeft until (enforcing_at policy.now self.old clock)
             → passed.steps.items ≡ []) }
         ensures memory { OnErr result (NoneIsLeft until (enforcing_at policy.now self.old clock) → ⊥) }
@@ -241,6 +245,7 @@ impl Remembered {
             (acted_steps passed.steps.items) (enforcing_at policy.now self.new passed.clock)) }
         ensures none_left { IfOk result (λ passed. NoneIsLeft until
             (enforcing_at policy.now self.new passed.clock)) }
+        ensures few { IfOk result (λ passed. length passed.steps.items ≤ most_inserted) }
         ensures memory { OnErr result (NoneIsLeft until (enforcing_at policy.now self.old clock) → ⊥) }
     {
         step_laws();
@@ -248,6 +253,9 @@ impl Remembered {
         let mut steps = Vec::new(alloc);
         let mut behind = clock;
         while let Some(deadline) = self.passed(until) {
+            if steps.len() >= MOST_INSERTED {
+                return Err(NoMemory);
+            }
             let none = EventSet::new(alloc);
             let step = self.decide(alloc, facts, plans, StepKind::Inserted, deadline, none)?;
             steps.push(step)?;

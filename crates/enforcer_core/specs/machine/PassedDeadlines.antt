@@ -1,7 +1,7 @@
 -- What an enforcer does at the deadlines that are passed.
 use Rattle.enf_data.specs.declared.steps.Step.{Step}
 use Rattle.std.specs.Prelude.{ℕ, ◌<◌, ◌≤◌, Option, List, [], ◌++◌, All, length, Contains, None, Some}
-use Rattle.std.specs.Prelude.{◌∷◌}
+use Rattle.std.specs.Prelude.{◌∷◌, ◌^◌}
 use Rattle.trace_meaning.specs.meaning.Traces.{Record, time_of}
 use Rattle.deadline_queue.specs.machine.Queues.{IsLeastOf}
 use Rattle.choice_step.specs.meaning.ActedSteps.{ActedStep}
@@ -51,6 +51,7 @@ IsLeastPassed deadlines until (Some least) = IsPassed until least × IsLeastOf d
 pub record LetsOut (before : Enforcing) (next : Record) (out : List ActedStep) (after : Enforcing) : Type 0 where
   pub serves : IsServing after
   pub goes_on : EnforcerGoesOn before (time_of next) (length out) after
+  pub few : length out < 2 ^ 62
   pub rising : RiseWithin before.clock (time_of next) out
   pub stands : KeepsStanding before after out
   pub changed : ChangesLawfully (enforcer_plans before) before.clock (time_of next) (next ∷ []) out

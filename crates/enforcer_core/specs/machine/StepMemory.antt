@@ -5,7 +5,7 @@ use Rattle.enf_data.specs.declared.steps.Step.{Step}
 use Rattle.enf_data.specs.meaning.Data.{IsTrace}
 use Rattle.enf_data.specs.meaning.Membership.{HasNoRepeats}
 use Rattle.std.specs.List.{AllByRecursion}
-use Rattle.std.specs.Prelude.{◌≡◌, List, IsTrue, map, ℕ, ◌+◌, ◌^◌, ◌≤◌, length, Bool, ◌∷◌}
+use Rattle.std.specs.Prelude.{◌≡◌, List, IsTrue, map, ℕ, ◌+◌, ◌-◌, ◌^◌, ◌≤◌, length, Bool, ◌∷◌}
 use Rattle.std.specs.Prelude.{[], ◌++◌, Option}
 use Rattle.trace_meaning.specs.declared.kinds.StepKind.{StepKind}
 use Rattle.trace_meaning.specs.meaning.Traces.{last_time}
@@ -44,6 +44,10 @@ pub record AreFactsOf (plans : List Plan) (facts : kept.PlanFacts) : Type 0 wher
 -- the greatest number of steps that are emitted
 abbrev pub most_positions : ℕ
 most_positions = 2 ^ 63 + 2 ^ 62
+
+-- the greatest number of steps that one call inserts: no memory holds a longer list
+abbrev pub most_inserted : ℕ
+most_inserted = 2 ^ 62 - 2
 
 -- the plans can be asked over the guards, and what is pending as well, with its deadlines
 pub record CanAskRemembered (plans : List Plan) (r : Remembered) : Type 0 where

@@ -18,7 +18,7 @@ returns-clause-drains c =
     (subst (λ (e : Enforcing). EnforcerDrains e (record { steps = c.in_ok-steps.field-0.steps.items }) after)
     (going c.self.inside.policy c.self.inside.remembered c.self.inside.clock c.self.inside.stopped c.args.self.now c.if-self.false c.self.view_is)
     (drains c.self.inside.policy c.self.inside.remembered c.pass.new.self c.self.inside.clock c.in_ok-steps.field-0.clock c.in_ok-steps.field-0.steps.items
-    c.in_ok-steps.ensures.passes c.in_ok-steps.ensures.none_left c.pending_is_enough.ensures.enough
+    c.in_ok-steps.ensures.passes c.in_ok-steps.ensures.none_left c.in_ok-steps.ensures.few c.pending_is_enough.ensures.enough
     (serving c.self.inside.policy c.self.inside.remembered c.self.inside.clock c.self.inside.stopped
     c.if-self.false (c.self.invariant.0.serves c.if-self.false))))
 

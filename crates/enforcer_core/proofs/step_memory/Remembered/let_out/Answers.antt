@@ -1,5 +1,5 @@
 use Rattle.enforcer_core.proofs.Vocabulary.{◌≡◌, ◌∙◌, ℕ, ◌≤◌, Bool, false, List, [], Contains, Option, Some, None, is_some, map, sym, subst, true≢false, MOST_HORIZON, StepRecord, System, plan_of}
-use Rattle.enforcer_core.proofs.Vocabulary.{WorkTogether, typed_of, IsPassed, acted_steps, enforcing_at, IsLeastPassed, LetsOut, NoneIsLeft, CanDecideAt, IsDecided}
+use Rattle.enforcer_core.proofs.Vocabulary.{arith, WorkTogether, typed_of, IsPassed, acted_steps, enforcing_at, IsLeastPassed, LetsOut, NoneIsLeft, CanDecideAt, IsDecided}
 use Rattle.plan_terms.specs.declared.plans.Plan.{Plan as StoredPlan}
 use Rattle.enforcer_core.proofs.RecordLemmas.{step_out}
 use Rattle.enforcer_core.proofs.PassedDeadlineLemmas.{passes_none}
@@ -34,7 +34,7 @@ returns c =
     let none_left : NoneIsLeft (Some c.args.time) before =
     none_passed c.args.self.now.pending.deadlines (Some c.args.time) c.passed.result c.is_some.result c.is_some.ensures c.if-is_some.false c.passed.ensures in
     let out = step_out c.step_laws.ensures c.args.policy.now c.args.self.now c.args.self.now c.args.clock c.args.clock c.args.time c.requires.not_over
-    [] (passes_none c.args.policy.now c.args.self.now c.args.clock (Some c.args.time) c.requires.serves) none_left together bounded c.requires.in_time
+    [] (passes_none c.args.policy.now c.args.self.now c.args.clock (Some c.args.time) c.requires.serves) none_left (omega arith) together bounded c.requires.in_time
     c.decide.new.self c.args.events c.as_slice-given.ensures.distinct c.in_ok-step.step decided
     (λ time later. subst (λ (l : List StoredPlan). CanDecideAt (map plan_of l) c.decide.new.self time) c.plans-plans.ensures.plans (c.in_ok-step.ensures.can time later)) in
     subst (λ (l : List made.OutStep). LetsOut before (StepRecord (record { time = c.args.time; events = c.args.events })) (acted_steps l) after)

@@ -1,5 +1,5 @@
 use Rattle.enforcer_core.proofs.Vocabulary.{ℕ, ◌≤◌, List, map, sym, subst, MOST_HORIZON, StepRecord, System, plan_of, WorkTogether, typed_of, ActedStep, acted_steps, enforcing_at, LetsOut}
-use Rattle.enforcer_core.proofs.Vocabulary.{CanDecideAt, IsDecided}
+use Rattle.enforcer_core.proofs.Vocabulary.{CanDecideAt, IsDecided, acted_step, arith, length-map}
 use Rattle.plan_terms.specs.declared.plans.Plan.{Plan as StoredPlan}
 use Rattle.enforcer_core.proofs.RecordLemmas.{step_out}
 use Rattle.enforcer_core.proofs.PassedDeadlineLemmas.{acted_more}
@@ -27,7 +27,8 @@ returns c =
     let decided = subst (λ (l : List StoredPlan). IsDecided (map plan_of l) c.pass_each.new.self System c.args.time c.args.events c.in_ok-step.step c.decide.new.self) c.plans-plans.ensures.plans
     c.in_ok-step.ensures.decided in
     let out = step_out c.step_laws.ensures c.args.policy.now c.args.self.now c.pass_each.new.self c.args.clock c.in_ok-steps.field-0.clock c.args.time c.requires.not_over
-    (acted_steps c.in_ok-steps.field-0.steps.items) c.in_ok-steps.ensures.passes c.in_ok-steps.ensures.none_left together bounded c.requires.in_time
+    (acted_steps c.in_ok-steps.field-0.steps.items) c.in_ok-steps.ensures.passes c.in_ok-steps.ensures.none_left
+    (let few = c.in_ok-steps.ensures.few in omega (arith, few, length-map c.in_ok-steps.field-0.steps.items acted_step)) together bounded c.requires.in_time
     c.decide.new.self c.args.events c.as_slice-given.ensures.distinct c.in_ok-step.step decided
     (λ time later. subst (λ (l : List StoredPlan). CanDecideAt (map plan_of l) c.decide.new.self time) c.plans-plans.ensures.plans (c.in_ok-step.ensures.can time later)) in
     rw c.in_ok-out.ensures

@@ -1,6 +1,5 @@
-use Rattle.enforcer_core.proofs.Vocabulary.{◌+◌, ◌-◌, ◌<◌, ◌≤◌, List, [], ◌∷◌, Contains, map, sym, subst, arith, Event, MOST_TIME, Inserted, plan_of, WorkTogether, typed_of, ActedStep, acted_step}
-use Rattle.enforcer_core.proofs.Vocabulary.{acted_steps, enforcing_at, PassesDeadlines, CanDecideAt, IsDecided, Remembered, length, ◌≡◌}
-use Rattle.enforcer_core.proofs.FewStepLemmas.{passed_are_few}
+use Rattle.enforcer_core.proofs.Vocabulary.{◌+◌, ◌≤◌, List, [], ◌∷◌, Contains, map, sym, subst, arith, Event, MOST_TIME, Inserted, plan_of, WorkTogether, typed_of, ActedStep, acted_step}
+use Rattle.enforcer_core.proofs.Vocabulary.{acted_steps, enforcing_at, PassesDeadlines, CanDecideAt, IsDecided, Remembered, length, length-append, length-map, ap, ◌∙◌, ◌≡◌}
 use Rattle.plan_terms.specs.declared.plans.Plan.{Plan as StoredPlan}
 use Rattle.enforcer_core.proofs.PassedDeadlineLemmas.{acted_more, not_before, on_err, passes_join, passes_one, within_most}
 use Rattle.enforcer_core.specs.declared.steps.OutStep as made
@@ -21,17 +20,10 @@ decide-requires-clause-in_time c =
 
 pub decide-requires-clause-room : goal.decide-requires-clause-room
 decide-requires-clause-room c =
-    let passes = c.loop-deadline.invariant.passes in
-    let few : length (acted_steps c.loop-deadline.steps.items) ≤ c.loop-deadline.behind - c.args.clock =
-    passed_are_few c.args.until (enforcing_at c.args.policy.now c.args.self.now c.args.clock) (acted_steps c.loop-deadline.steps.items)
-    (enforcing_at c.args.policy.now c.loop-deadline.self c.loop-deadline.behind) passes in
-    let position : c.loop-deadline.self.position ≡ c.args.self.now.position + length (acted_steps c.loop-deadline.steps.items) = passes.goes_on.position in
-    let le : c.in-Some.deadline ≤ MOST_TIME =
-    within_most c.step_laws.ensures c.args.policy.now c.loop-deadline.self c.loop-deadline.behind c.in-Some.deadline passes.serves c.in-Some.ensures.1 in
-    let from : c.loop-deadline.behind ≤ c.in-Some.deadline =
-    not_before c.step_laws.ensures c.args.policy.now c.loop-deadline.self c.loop-deadline.behind c.in-Some.deadline passes.serves c.in-Some.ensures.1 in
+    let few = c.loop-deadline.invariant.few in
+    let position : c.loop-deadline.self.position ≡ c.args.self.now.position + length (acted_steps c.loop-deadline.steps.items) = c.loop-deadline.invariant.passes.goes_on.position in
     let room = c.requires.room in
-    omega (arith, few, position, le, from, room)
+    omega (arith, few, position, room, length-map c.loop-deadline.steps.items acted_step)
 
 pub returns-in_err-push-clause-memory : goal.returns-in_err-push-clause-memory
 returns-in_err-push-clause-memory c =
@@ -48,12 +40,10 @@ overflow_add-behind c =
 
 pub loop-deadline-smaller : goal.loop-deadline-smaller
 loop-deadline-smaller c =
-    let serves = c.loop-deadline.invariant.passes.serves in
-    let le : c.in-Some.deadline ≤ MOST_TIME =
-    within_most c.step_laws.ensures c.args.policy.now c.loop-deadline.self c.loop-deadline.behind c.in-Some.deadline serves c.in-Some.ensures.1 in
-    let from : c.loop-deadline.behind ≤ c.in-Some.deadline =
-    not_before c.step_laws.ensures c.args.policy.now c.loop-deadline.self c.loop-deadline.behind c.in-Some.deadline serves c.in-Some.ensures.1 in
-    let less : (MOST_TIME + 1) - (c.in-Some.deadline + 1) < (MOST_TIME + 1) - c.loop-deadline.behind = omega (arith, le, from) in less
+    let few = c.loop-deadline.invariant.few in
+    let one : length c.push.new.self.items ≡ length c.loop-deadline.steps.items + 1 =
+    ap length c.in_ok-push.ensures.items ∙ length-append c.loop-deadline.steps.items (c.in_ok-step.step ∷ []) in
+    omega (arith, few, one)
 
 pub loop-deadline-preserved : goal.loop-deadline-preserved
 loop-deadline-preserved c =
@@ -80,6 +70,11 @@ loop-deadline-preserved c =
           (subst (λ (l : List ActedStep). PassesDeadlines c.args.until before l after) (sym (acted_more c.loop-deadline.steps.items c.in_ok-step.step))
           (passes_join c.step_laws.ensures policy c.args.self.now r r' c.args.clock c.loop-deadline.behind (c.in-Some.deadline + 1) c.args.until
           (acted_steps c.loop-deadline.steps.items) (acted_step c.in_ok-step.step ∷ []) c.loop-deadline.invariant.passes one));
+      few =
+          let few = c.if-len-ge-MOST_INSERTED.false in
+          let one : length c.push.new.self.items ≡ length c.loop-deadline.steps.items + 1 =
+          ap length c.in_ok-push.ensures.items ∙ length-append c.loop-deadline.steps.items (c.in_ok-step.step ∷ []) in
+          omega (arith, few, one);
       untouched = λ none. absurd (none c.in-Some.deadline
           (subst (λ (r : Remembered). Contains r.pending.deadlines c.in-Some.deadline) (c.loop-deadline.invariant.untouched none) c.in-Some.ensures.1.0)
           c.in-Some.ensures.0);
