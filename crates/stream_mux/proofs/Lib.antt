@@ -1,0 +1,16 @@
+pub mod MergeOrder
+pub mod MergedLists
+pub mod TakenRecords
+pub mod ReleasedSteps
+pub mod SentItems
+pub mod TurnTrees
+pub mod LinedUpQueues
+pub mod MuxStands
+pub mod QueueEdits
+pub mod GreatestTimes
+pub mod OpenMarks
+pub mod MuxSteps
+pub mod SentOrder
+pub mod PlacedTokens
+pub mod TaggedRecords
+pub mod BadTags

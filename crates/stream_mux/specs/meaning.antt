@@ -1,0 +1,2 @@
+pub mod MergedStreams
+pub mod TaggedGrammar
