@@ -1,0 +1,4 @@
+pub mod Cases
+pub mod CopyMeanings
+pub mod Laws
+pub mod StoredCopies

@@ -1,0 +1,3 @@
+pub mod FormulaCopies
+pub mod CountFormulas
+pub mod DifferentLists
