@@ -1,0 +1,4 @@
+pub mod Vocabulary
+pub mod UnfoldedTruth
+pub mod DefinitionTruth
+pub mod PlainTruth

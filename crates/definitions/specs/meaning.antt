@@ -1,0 +1,2 @@
+pub mod DefinedNames
+pub mod UnfoldedFormulas
