@@ -59,7 +59,7 @@ pub record StandsFor (mux : MuxState) (history : List Tagged) : Type 0 where
   pub waits : (stream : ℕ) → queue_of mux.queues stream ≡ items_from stream (waiting_steps (length mux.marks) history)
   pub greatest : mux.greatest ≡ greatest_time (sent (length mux.marks) history)
 
--- after one more record it stands for the history with it, and gives what more is sent
+-- what is given is what more is sent after one more record
 abbrev pub SendsMore : (streams : ℕ) → List Tagged → Tagged → (given : List LogItem) → Type 0
 SendsMore streams history next given = sent streams (next ∷ history) ≡ sent streams history ++ given
 
