@@ -13,4 +13,6 @@ mod owed;
 #[cfg(test)]
 mod plans;
 #[cfg(test)]
+mod streams;
+#[cfg(test)]
 mod values;

@@ -1,9 +1,9 @@
-//! The worked logs with ample memory, and many records.
-use crate::{Mux, MuxRefusal, Offer};
+//! Several streams in one order of time: the worked logs with ample memory, and many records.
 use enf_data::EventSet;
 use log_stream::LogItem;
 use std::alloc::Global;
 use std::test::Fail;
+use stream_mux::{Mux, MuxRefusal, Offer};
 use trace_meaning::kinds::StepKind;
 
 fn step(alloc: Global, time: u64) -> Offer {

@@ -6,8 +6,6 @@ pub mod laws;
 pub mod mux;
 pub mod records;
 mod releasing;
-#[cfg(test)]
-mod tests;
 mod tree;
 mod turns;
 mod waiting;
